@@ -27,7 +27,7 @@ KINDS = Path(__file__).parents[1] / "report" / "kinds.txt"
 SCHEMA_VERSION = 3
 APPLICATION = 1748123206
 # Those that h2audit-why tells of, and those of reports.
-TOLD = (REQUESTS, "directions", "certainty")
+TOLD = (REQUESTS, "directions", "certainty", "reasons")
 TABLES = (*TOLD, "passed_over", "unopened", "findings", "stalls", "connections")
 # What of a request is entered where names are asked for alone.
 OF_NAMES = ("name", "method", "request_path", "authority", "status", "grpc_status")

@@ -177,6 +177,15 @@ CREATE TABLE certainty (
     FOREIGN KEY (capture, connection) REFERENCES connections (capture, number)
 ) WITHOUT ROWID;
 
+-- Why a connection was not audited, by its first packets: more than the report's word.
+CREATE TABLE reasons (
+    capture INTEGER NOT NULL,
+    connection INTEGER NOT NULL,
+    reason TEXT NOT NULL,
+    PRIMARY KEY (capture, connection),
+    FOREIGN KEY (capture, connection) REFERENCES connections (capture, number)
+) WITHOUT ROWID;
+
 CREATE INDEX captures_by_outcome ON captures (outcome, reason);
 CREATE INDEX connections_by_client ON connections (client);
 CREATE INDEX connections_by_server ON connections (server);
@@ -280,9 +289,14 @@ WHERE outcome = 'audited'
       AND (reason IS NOT NULL OR NOT EXISTS (SELECT 1 FROM unopened WHERE capture = captures.id))
 UNION ALL
 SELECT captures.path, 'connection ' || connections.number, connections.client, connections.server,
-       CASE WHEN connections.holds LIKE 'refused %' THEN substr(connections.holds, 9) ELSE connections.holds END
+       CASE
+           WHEN reasons.reason IS NOT NULL THEN reasons.reason
+           WHEN connections.holds LIKE 'refused %' THEN substr(connections.holds, 9)
+           ELSE connections.holds
+       END
 FROM connections
 JOIN captures ON captures.id = connections.capture
+LEFT JOIN reasons ON reasons.capture = connections.capture AND reasons.connection = connections.number
 WHERE connections.holds <> 'http2'
 UNION ALL
 SELECT captures.path, 'rest of connection ' || connections.number, connections.client, connections.server,

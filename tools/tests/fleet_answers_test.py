@@ -295,7 +295,7 @@ class Names(OnMachine):
                 self.machine.ask("SELECT requests FROM captures WHERE path LIKE '%/a.%'"), [(2000 if words else None,)]
             )
             if not words:
-                self.assertEqual([self.machine.ask(f"SELECT * FROM {table}") for table in NEW_TABLES], [[], [], []])
+                self.assertEqual([self.machine.ask(f"SELECT * FROM {table}") for table in NEW_TABLES], 4 * [[]])
             self.assertEqual(self.machine.ask("PRAGMA foreign_key_check") + self.machine.ask("PRAGMA integrity_check"),
                              [("ok",)])  # fmt: skip
             self.assertEqual(self.machine.run("--resume", "--requests", named)[0], 0)

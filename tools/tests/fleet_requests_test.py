@@ -24,7 +24,7 @@ CAPTURES, RANDOM = 300, 190
 SIDES = ("client", "server")
 HELD = ("stream-window", "connection-window", "tcp")
 OLD_TABLES = ("connections", "findings", "stalls", "unopened", "passed_over")
-NEW_TABLES = ("requests", "directions", "certainty")
+NEW_TABLES = ("requests", "directions", "certainty", "reasons")
 FOLDERS = (TOP / "tests" / "tls", TOP / "tests" / "corpus")
 KEYS = sorted(path for folder in FOLDERS for path in folder.glob("*.keys"))
 Rows = dict[str, list[dict[str, Any]]]
@@ -38,6 +38,7 @@ def samples() -> Iterator[tuple[str, bytes]]:
         for path in sorted(folder.iterdir()):
             if ".pcap" in path.name:
                 yield path.name, path.read_bytes()
+    yield "refused_port.pcap", (TOP / "tests" / "answer" / "refused_port.pcap").read_bytes()
     for sample in {sample.digest: sample for sample in by_hand()}.values():
         yield f"{sample.name}.hand.pcap", sample.capture
     for name in ("stalls", "larger_windows"):
@@ -55,6 +56,8 @@ def rows_of(said: Json) -> Rows:
     found: Rows = {table: [] for table in NEW_TABLES}
     for connection in said["connections"]:
         number = connection["number"]
+        if connection["outcome"] != "http2":
+            found["reasons"].append({"connection": number, "reason": connection["reason"] or connection["outcome"]})
         for fault in connection["faults"]:
             found["certainty"].append(
                 {"connection": number, "frame": fault["at"]["frame"], "side": fault["side"], "kind": fault["kind"]}
@@ -326,6 +329,21 @@ class Tables(unittest.TestCase):
             self.assertEqual((row["certainty"], row["doubt"]), wanted[key])
         without = self.base("without").ask("SELECT DISTINCT certainty, doubt FROM faults")
         self.assertEqual(without, [{"certainty": None, "doubt": None}])
+
+    def test_not_audited(self) -> None:
+        """The view of what was not audited has the word of h2audit-why, where that was asked, and else the report's."""
+        question = "SELECT path, what, reason FROM not_audited WHERE what LIKE 'connection %'"
+        wanted = {
+            (word_of(path), f"connection {row['connection']}"): row["reason"]
+            for path, said in self.said["named"].items()
+            for row in rows_of(said)["reasons"]
+        }
+        self.assertLessEqual({"refused-port", "silent", "http/1.1", "no-syn-ack", "no-key"}, set(wanted.values()))
+        found = {name: self.base(name).ask(question) for name in ("named", "unnamed", "without")}
+        for name in ("named", "unnamed"):
+            self.assertEqual({(row["path"], row["what"]): row["reason"] for row in found[name]}, wanted)
+        self.assertEqual({(row["path"], row["what"]) for row in found["without"]}, set(wanted))
+        self.assertTrue({"refused-port", "silent"}.isdisjoint(row["reason"] for row in found["without"]))
 
 
 def answers(captures: list[pathlib.Path], words: list[str]) -> Iterator[tuple[pathlib.Path, Json]]:

@@ -1,5 +1,6 @@
-"""Tests that all forms in which h2audit-why answers say the same of each request, over all captures of the repository:
-text, JSON, lines of JSON, rows, JUnit, and a comparison with itself.
+"""Tests that all forms in which h2audit-why answers say the same of each request, and of each connection that was not
+audited, over all captures of the repository: text, JSON, lines of JSON, charts, rows, JUnit, and a comparison with
+itself.
 
     python3 -m tools.tests.why_forms_test [H2AUDIT] [TEST..]
 """
@@ -22,6 +23,8 @@ ENDINGS = (".pcap", ".pcapng", ".gz", ".zst")
 CAPTURES = [path for folder in FOLDERS for path in sorted((TOP / folder).iterdir()) if path.suffix in ENDINGS]
 # The members of a line that say which connection it is of.
 OF_LINE = ("h2audit_why", "connection", "client_address", "server_address")
+# A page shows so many requests.
+MOST_SHOWN = 1024
 # The columns of a row of a request, behind its connection (h2audit/fleet/schema.sql).
 COLUMNS = (
     "stream", "name", "method", "path", "authority", "status", "grpc_status", "promised_on", "opened_packet",
@@ -37,6 +40,12 @@ REASONS = "fault,stall,hung,tcp,error,gap,not-audited,unanswered,status,cut"
 
 def packet(at: Json | None) -> int | None:
     return at["packet"] if at else None
+
+
+def unread(found: Json) -> list[tuple[int, str]]:
+    """The connections that were not audited, and why."""
+    some = [one for one in found["connections"] if one["outcome"] != "http2"]
+    return [(one["number"], one["reason"] or one["outcome"]) for one in some]
 
 
 def of_document(found: Json) -> Iterator[tuple[tuple[int, int], Json]]:
@@ -65,7 +74,8 @@ class Forms(OnCaptures):
                 requests += len(said)
                 validator.validate(found)
                 self.lines(said, words)
-                self.rows(said, words)
+                self.charts(said, words)
+                self.rows(found, said, words)
                 self.text(found, words)
                 self.junit(found, said, words)
                 self.compared(said, capture, words)
@@ -77,9 +87,17 @@ class Forms(OnCaptures):
                    for line in lines}  # fmt: skip
         self.assertEqual(by_line, said)
 
-    def rows(self, said: Named, words: list[str]) -> None:
+    def charts(self, said: Named, words: list[str]) -> None:
+        """What a page shows of requests is what the document has."""
+        shown = dict(of_document(json.loads(ran("--charts", *words).stdout)))
+        self.assertEqual(shown, {place: said[place] for place in shown})
+        self.assertEqual(len(shown), min(len(said), MOST_SHOWN))
+
+    def rows(self, found: Json, said: Named, words: list[str]) -> None:
         lines = ran("--rows", "-", *words).stdout.decode().splitlines()[1:]
-        rows = [row for row in map(json.loads, lines) if row[0] == "requests"]
+        all_rows = [json.loads(line) for line in lines]
+        self.assertEqual([row[1:] for row in all_rows if row[0] == "reasons"], list(map(list, unread(found))))
+        rows = [row for row in all_rows if row[0] == "requests"]
         self.assertEqual({(row[1], row[2]) for row in rows}, set(said))
         for _, connection, *values in rows:
             row = dict(zip(COLUMNS, values, strict=True))
@@ -99,6 +117,9 @@ class Forms(OnCaptures):
     def text(self, found: Json, words: list[str]) -> None:
         """The cause of a request stands in its line; where it is that of another one, that one is named."""
         text = ran("--all", *words).stdout.decode()
+        for one in found["not_audited"]:
+            self.assertIn(one["text"], " ".join(text.split()))
+        self.assertLessEqual({why for _, why in unread(found)}, {one["reason"] for one in found["not_audited"]})
         parts = re.split(r"^connection (\d+)  ", text, flags=re.M)
         told = {int(number): part.splitlines() for number, part in zip(parts[1::2], parts[2::2])}
         for connection in found["connections"]:
@@ -127,7 +148,16 @@ class Forms(OnCaptures):
         for connection in found["connections"]:
             name = f"connection {connection['number']} {connection['client']} -> {connection['server']}"
             (suite,) = [suite for suite in top if suite.get("name") == name]
-            cases = suite.findall("testcase")[1:]
+            own, *cases = suite.findall("testcase")
+            why = dict(unread(found)).get(connection["number"])
+            told = [
+                line for line in (own.findtext("failure") or "").splitlines() if line.startswith("not-audited: not")
+            ]
+            self.assertEqual(bool(told), why is not None)
+            if why is not None:
+                (words_of_it,) = [one["text"] for one in found["not_audited"] if one["reason"] == why]
+                said_of_it = re.sub(r"^[\d,]+ connections?", "a connection", words_of_it)
+                self.assertEqual(told, [f"not-audited: not audited ({why}): {said_of_it}"])
             self.assertEqual(len(cases), len(connection["requests"]))
             for case, request in zip(cases, connection["requests"]):
                 self.case(case, request)

@@ -25,9 +25,6 @@ from tools.tests.why_tools import TOP, Json, has_programs, programs_of, said_of,
 CAUSES = TOP / "tests" / "causes"
 README = CAUSES / "README.md"
 HELD = CAUSES / "held.tsv"
-# Rows whose answer is not right yet: answers that a server sends one after the other (in_turn), and a TCP window that
-# is below a segment, and not 0 (stops_reading_briefly).
-NOT_YET = frozenset({"in_turn", "stops_reading_briefly"})
 NANOS = 1_000_000_000
 # A share is named right if it is so close to what was set.
 CLOSE = 0.1
@@ -99,11 +96,7 @@ class Kept(unittest.TestCase):
         held = held_by_row()
         for row in ROWS:
             with self.subTest(row.name):
-                wrong = named_of(row, unpacked(row), held[row.name]).wrong
-                if row.name not in NOT_YET:
-                    self.assertEqual(wrong, [])
-                elif not wrong:
-                    print(f"{row.name} is right now: take it out of NOT_YET")
+                self.assertEqual(named_of(row, unpacked(row), held[row.name]).wrong, [])
 
     def test_a_wrong_cause_is_seen(self) -> None:
         """The captures of one row are wrong by another one's truth."""
@@ -122,7 +115,6 @@ class Kept(unittest.TestCase):
         )
         self.assertLessEqual(max(path.stat().st_size for path in CAUSES.glob("*.pcap.gz")), LARGEST)
         self.assertEqual(sorted(held_by_row()), sorted(one.name for one in ROWS))
-        self.assertLessEqual(NOT_YET, {one.name for one in ROWS})
 
     def test_table(self) -> None:
         self.assertEqual(README.read_text(), table(), "--write makes it anew")
@@ -184,7 +176,7 @@ def line_of(row: Row, found: Json, held: float) -> str:
     named = named_of(row, found, held)
     was_set = f"{set_share(asked[0], held):.0%}" if row.shares and asked else ""
     cause = f"`{row.kind}`" + (f", `{row.why}`" if row.why else "") + (f", ask the {row.ask}" if row.ask else "")
-    said = ", ".join(word for word in ("right", named.share) if word) if not named.wrong else f"not yet: {named.words}"
+    said = ", ".join(word for word in ("right", named.share) if word) if not named.wrong else f"wrong: {named.words}"
     return f"| `{row.name}` | {row.peers} | {row.place()} | {row.was_set} | {cause} | {was_set} | {said} |\n"
 
 
@@ -229,11 +221,11 @@ def make(names: list[str], is_kept: bool) -> int:
     wrong = count = 0
     for row in [one for one in ROWS if not names or one.name in names]:
         why = wrong_anew(row, is_kept)
-        if why and row.name not in NOT_YET:
+        if why:
             print(f"{row.name}: once more, since a busy machine holds peers up itself: {'; '.join(why)}", flush=True)
             why = wrong_anew(row, is_kept)
         count += why is not None
-        wrong += bool(why) and row.name not in NOT_YET
+        wrong += bool(why)
         said = "no wire can be laid here" if why is None else "; ".join(why) or "right"
         print(f"{row.name}: {said}", flush=True)
     print(f"{count} captures, {wrong} wrong")

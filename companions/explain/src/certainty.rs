@@ -64,7 +64,7 @@ pub fn certainty_of(fault: &Finding, known: &Known, settings: &Settings) -> (Cer
     }
     if let Some((_, packet)) = known.back.filter(|back| back.0 <= fault.record) {
         let front = format!("the connection's times go back at packet {packet}");
-        return (Certainty::Clock, format!("{front}, so its packets may stand in another order: reordercap"));
+        return (Certainty::Clock, format!("{front}, so its packets may stand in another order: {}", known.help));
     }
     match other_settings(fault, settings) {
         Some(why) => (Certainty::Settings, why),
@@ -160,7 +160,9 @@ mod tests {
         let gone = "it is gone if the SETTINGS in packet 4 count from there on: the server had not acknowledged them";
         assert_eq!(why, gone);
         known.back = Some((9, 70));
-        assert_eq!(certainty_of(&overrun, &known, &settings()).0, Certainty::Clock);
+        let (certainty, why) = certainty_of(&overrun, &known, &settings());
+        assert_eq!(certainty, Certainty::Clock);
+        assert!(why.ends_with("packet 70, so its packets may stand in another order: --reorder"));
         known.gaps[0] = Some(Arrival { packet: 5, nanos: 0 });
         known.arrivals[0] = 9;
         assert_eq!(certainty_of(&overrun, &known, &settings()).0, Certainty::Clock, "the gap is behind it");

@@ -189,9 +189,9 @@ fn stop_of(audit: &Audit) -> Result<Option<Nanos>, Failure> {
 }
 
 fn about(known: &Known, audit: &Audit, course: &mut import::Course, stop: Option<Nanos>) -> About {
-    let lost = known.gaps.iter().flatten().map(|gap| gap.nanos).min().unwrap_or(Nanos::MAX);
+    let missing = known.gaps.iter().copied().chain(course.sides.iter().map(|side| side.uncaptured.first));
+    let lost = missing.flatten().map(|first| first.nanos).min().unwrap_or(Nanos::MAX);
     let unseen = lost.min(stop.unwrap_or(Nanos::MAX));
-    let is_uncaptured = course.sides.iter().any(|side| side.uncaptured.bytes > 0);
     let handshake = handshake_of(course);
     let ways = [0, 1].map(|side| course.ways[side].or(handshake[side]));
     let round_trip = round_trip_of(ways, &known.quickest);
@@ -209,7 +209,6 @@ fn about(known: &Known, audit: &Audit, course: &mut import::Course, stop: Option
         round_trip,
         unseen,
         lost,
-        is_uncaptured,
         courses,
         stalls: About::stalls_of(&audit.stalls, unseen),
         tcp,

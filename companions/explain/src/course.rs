@@ -25,6 +25,8 @@ pub struct Course {
     sent_to: Nanos,
     sent_from: Nanos,
     next: usize,
+    /// Since when the side sends without a longer pause.
+    pub sends_since: Nanos,
     /// When the last frames of the side came, also those of no stream, the latest first.
     last: [Nanos; MOST_LAST],
     waits: Waits,
@@ -55,6 +57,7 @@ impl Course {
             sent_to: Nanos::MIN,
             sent_from: Nanos::MIN,
             next: 0,
+            sends_since: Nanos::MAX,
             last: [Nanos::MIN; MOST_LAST],
             waits: Waits::default(),
         }
@@ -91,6 +94,8 @@ impl Course {
         }
         if is_sending {
             self.sent.push(at, time, Share::Others);
+        } else {
+            self.sends_since = time;
         }
     }
 

@@ -28,7 +28,7 @@ pub fn not_audited(answer: &Answer, summary: &Summary) -> Vec<NotAudited> {
     if one_way > 0 {
         *reasons.entry(ONE_DIRECTION).or_default() += one_way;
     }
-    reasons.iter().for_each(|(why, number)| say(why, *number, reason_words(why, *number)));
+    reasons.iter().for_each(|(why, number)| say(why, *number, reason_words(why, &count(*number, "connection"))));
     let unopened = summary.unopened.len() as u64 - one_way;
     if unopened > 0 {
         say("unopened", unopened, count(unopened, "connection") + " that began before the capture");

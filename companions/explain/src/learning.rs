@@ -5,7 +5,7 @@ use std::ffi::OsStr;
 use std::os::unix::ffi::OsStrExt;
 
 use captures::{flags, placed, Arrival, Flow};
-use import::{Addresses, Listener, Summary};
+use import::{help_for, Addresses, Listener, Summary};
 use programs::{temporary_failure, Failure};
 
 use crate::answer::{At, Files};
@@ -25,6 +25,8 @@ pub struct Known {
     pub last_record: u64,
     /// The first record whose time lies before that of the connection's record before it, with its packet.
     pub back: Option<(u64, u64)>,
+    /// What helps there.
+    pub help: &'static str,
     /// The initial sequence numbers of both sides.
     pub initials: [Option<u32>; 2],
     /// Whether it is HTTP/2 that can be read.
@@ -49,6 +51,8 @@ pub struct Learned {
     last_record: u64,
     last: At,
     back: Option<(u64, u64)>,
+    /// By how much its times go back, at most.
+    late: u64,
     initials: [Option<u32>; 2],
     /// Bytes of the server came before its initial sequence number was known.
     is_early: bool,
@@ -84,6 +88,7 @@ impl Learned {
             last_record: record,
             last: opened,
             back: None,
+            late: 0,
             initials: [Some(sequence), None],
             is_early: false,
             sides: [side(true), side(false)],
@@ -94,15 +99,16 @@ impl Learned {
 
     /// One that begins anew, with what is known of it now, where it has to be read once more.
     pub fn anew(&self) -> Option<Box<Learned>> {
-        let Learned { record, opened, last, back, initials, .. } = *self;
+        let Learned { record, opened, last, back, late, initials, .. } = *self;
         let again = Learned::new(record, opened, initials[0].unwrap_or(0));
-        (self.is_early && initials[1].is_some()).then(|| Box::new(Learned { last, back, initials, ..again }))
+        (self.is_early && initials[1].is_some()).then(|| Box::new(Learned { last, back, late, initials, ..again }))
     }
 
     /// A record of a side came.
     pub fn met(&mut self, number: u64, at: At, side: usize, (sequence, bits): (u32, u8)) {
         if at.time < self.last.time {
             self.back.get_or_insert((number, at.packet));
+            self.late = self.late.max(self.last.time.abs_diff(at.time));
         }
         self.last = at;
         if side == import::SERVER && bits & flags::SYN != 0 && bits & flags::ACK != 0 {
@@ -152,6 +158,7 @@ impl Learned {
             last_record: self.last_record,
             last: self.last,
             back: self.back,
+            help: help_for(self.late),
             initials: self.initials,
             is_http2: self.initials[import::SERVER].is_some() && client.has_preface() && !client.is_other(),
             gaps: [0, 1].map(|side| self.sides[side].flow.behind_hole()),

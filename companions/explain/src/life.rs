@@ -11,12 +11,13 @@ pub const MOST_SPANS: u16 = 512;
 const TOO_MANY: u16 = MOST_SPANS + 1;
 
 /// What holds back a direction: the stalls of its window, in order and without overlap, and its side's course; and when
-/// it was asked to begin.
+/// it was asked to begin, and since when it only waited for its turn then.
 #[derive(Clone, Copy)]
 pub struct Holding<'a> {
     pub stalls: &'a [Interval],
     pub course: &'a Course,
     pub asked: Nanos,
+    pub turn: Nanos,
 }
 
 /// The life of one direction up to some moment: from the stream's opening on.
@@ -79,7 +80,10 @@ impl Life {
         if self.has_begun {
             self.pause(holding, at, until, is_within);
         } else {
-            self.wait(holding, at, until);
+            // It may have begun among what was not seen.
+            let unseen = holding.course.unseen.max(at).min(until);
+            self.wait(holding, at, unseen);
+            self.put(unseen, until, Share::Unseen);
         }
         self.at = until;
     }
@@ -87,12 +91,19 @@ impl Life {
     /// The stretch before its first frame.
     fn wait(&mut self, holding: &Holding<'_>, begin: Nanos, end: Nanos) {
         let mut begin = begin;
+        let turn = holding.turn.max(holding.asked);
         for (from, to) in holding.course.waits(begin, end, holding.asked) {
-            self.put(begin, from, Share::Waiting);
+            self.wait_free(begin, from, turn);
             self.put(from, to, Share::Tcp);
             begin = to;
         }
-        self.put(begin, end, Share::Waiting);
+        self.wait_free(begin, end, turn);
+    }
+
+    /// A stretch before its first frame in which TCP held nothing back.
+    fn wait_free(&mut self, begin: Nanos, end: Nanos, turn: Nanos) {
+        self.put(begin, end.min(turn), Share::Waiting);
+        self.put(begin.max(turn), end, Share::Others);
     }
 
     /// A stretch between two frames.
@@ -200,6 +211,7 @@ impl Life {
 #[cfg(test)]
 mod tests {
     use super::*;
+    use crate::course::Waits;
 
     fn life(begin: Nanos, until: Nanos) -> Life {
         Life { until, ..Life::new(begin, true) }
@@ -222,7 +234,7 @@ mod tests {
     #[test]
     fn what_it_was_doing() {
         let course = Course::new(vec![(200, 300)], vec![(250, 400)], 20, 900);
-        let holding = Holding { stalls: &[(110, 150), (210, 220)], course: &course, asked: 0 };
+        let holding = Holding { stalls: &[(110, 150), (210, 220)], course: &course, asked: 0, turn: UNENDED };
         let mut one = life(0, 1000);
         one.sent(&holding, 50, 60, false);
         one.sent(&holding, 70, 100, false);
@@ -246,9 +258,38 @@ mod tests {
     }
 
     #[test]
+    fn its_turn_comes_after_others() {
+        let waits = Waits { own: vec![(50, 60)], asked: Vec::new() };
+        let course = Course::new(vec![], vec![], 20, UNENDED).with_waits(waits);
+        for (asked, turn, all) in [
+            (10, 40, [(0, 40, "waiting"), (40, 50, "others"), (50, 60, "tcp"), (60, 90, "others")]),
+            (30, 20, [(0, 30, "waiting"), (30, 50, "others"), (50, 60, "tcp"), (60, 90, "others")]),
+            (10, 80, [(0, 50, "waiting"), (50, 60, "tcp"), (60, 80, "waiting"), (80, 90, "others")]),
+        ] {
+            let mut one = life(0, 90);
+            one.sent(&Holding { stalls: &[], course: &course, asked, turn }, 90, 90, false);
+            check(&one, 0);
+            assert_eq!(told(&one), all);
+        }
+    }
+
+    #[test]
+    fn what_never_began_is_not_known_behind_a_gap() {
+        let course = Course::new(vec![], vec![], 20, 60);
+        let holding = Holding { stalls: &[], course: &course, asked: 0, turn: UNENDED };
+        let mut one = life(10, 100);
+        one.finish(&holding, false);
+        check(&one, 10);
+        assert_eq!(told(&one), [(10, 60, "waiting"), (60, 100, "unseen")]);
+        let mut begun = life(10, 100);
+        begun.sent(&holding, 80, 80, false);
+        assert_eq!(told(&begun), [(10, 80, "waiting")]);
+    }
+
+    #[test]
     fn within_a_frame_a_longer_pause_is_tcp() {
         let course = Course::new(vec![], vec![], 20, UNENDED);
-        let holding = Holding { stalls: &[], course: &course, asked: 0 };
+        let holding = Holding { stalls: &[], course: &course, asked: 0, turn: UNENDED };
         let mut one = life(0, 300);
         for (time, is_within) in [(0, false), (100, true), (120, true)] {
             one.sent(&holding, time, time, is_within);
@@ -261,7 +302,7 @@ mod tests {
     #[test]
     fn times_that_go_back_count_as_the_latest_before() {
         let course = Course::new(vec![], vec![], 20, UNENDED);
-        let holding = Holding { stalls: &[], course: &course, asked: 0 };
+        let holding = Holding { stalls: &[], course: &course, asked: 0, turn: UNENDED };
         let mut one = life(100, 200);
         for (first, last) in [(50, 150), (120, 130), (400, 90)] {
             one.sent(&holding, first, last, false);
@@ -275,7 +316,7 @@ mod tests {
     fn more_spans_than_are_told() {
         let held = (0..600).map(|at| (at * 100, at * 100 + 50)).collect();
         let course = Course::new(vec![], held, 20, UNENDED);
-        let holding = Holding { stalls: &[], course: &course, asked: 0 };
+        let holding = Holding { stalls: &[], course: &course, asked: 0, turn: UNENDED };
         let mut one = life(0, 60_000);
         one.sent(&holding, 0, 0, false);
         one.finish(&holding, false);

@@ -20,6 +20,8 @@ struct Case {
     /// What held back its beginning: its own bytes; and those that asked for it, from first to last sending.
     waits: Waits,
     asked: Nanos,
+    /// Since when it only waits for its turn.
+    turn: Nanos,
     /// Packets of other streams of its side.
     others: Vec<Nanos>,
     pause: Nanos,
@@ -60,6 +62,7 @@ impl Case {
             held: intervals(dice, Nanos::MAX),
             waits: Waits { own: intervals(dice, Nanos::MAX), asked: intervals(dice, Nanos::MAX) },
             asked: number(dice, 70),
+            turn: *dice.of_these(&[Nanos::MAX, Nanos::MAX, 0, 20, 50]),
             others: (0..*dice.of_these(&[0, 6, 20])).map(|_| number(dice, 70)).collect(),
             pause: *dice.of_these(&[0, 2, 5, 60]),
             unseen,
@@ -70,7 +73,7 @@ impl Case {
         let course = Course::new(self.connection.clone(), self.held.clone(), self.pause, self.unseen);
         let mut course = course.with_waits(self.waits.clone());
         course.sent(&self.packets());
-        let holding = Holding { stalls: &self.stalls, course: &course, asked: self.asked };
+        let holding = Holding { stalls: &self.stalls, course: &course, asked: self.asked, turn: self.turn };
         let mut life = Life { until: self.life.1, ..Life::new(self.life.0, has_spans) };
         for ((first, last), is_within) in &self.frames {
             life.sent(&holding, *first, *last, *is_within);
@@ -125,9 +128,12 @@ impl Case {
     /// What a moment is, where it is not free.
     fn share_at(&self, at: Nanos) -> Option<Share> {
         let is_in = |some: &[Interval]| some.iter().any(|one| (one.0..one.1).contains(&at));
-        let first = self.frames.first().map_or(self.life.1, |frame| frame.0 .0);
+        let seen = self.life.1.min(self.unseen);
+        let first = self.frames.first().map_or(seen, |frame| frame.0 .0);
         match () {
+            () if self.frames.is_empty() && at >= seen => Some(Share::Unseen),
             () if at < first && self.is_waiting_for_tcp(at, first.min(self.life.1)) => Some(Share::Tcp),
+            () if at < first && at >= self.turn.max(self.asked) => Some(Share::Others),
             () if at < first => Some(Share::Waiting),
             () if self.frames.iter().any(|frame| (frame.0 .0..frame.0 .1).contains(&at)) => Some(Share::Sending),
             () if is_in(&self.stalls) => Some(Share::StreamStall),

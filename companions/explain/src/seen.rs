@@ -7,6 +7,7 @@ use crate::answer::{is_pushed, At, Ended, How, Nanos, Place, RoundTrip, StallSai
 use crate::course::Course;
 use crate::intervals::{disjoint, Interval, Stretches};
 use crate::life::Holding;
+use crate::rounds::NEAR;
 use crate::settings::Changes;
 use crate::side_of;
 use crate::stream::{Direction, Stream};
@@ -25,19 +26,22 @@ pub struct About {
     /// The time from which something of it was not seen, or not judged; and from which bytes are missing.
     pub unseen: Nanos,
     pub lost: Nanos,
-    /// Whether a side acknowledged bytes of the other one that were not captured.
-    pub is_uncaptured: bool,
     pub courses: [Course; 2],
     /// How many stalls each stream's window has, and when they were.
     pub stalls: HashMap<Key, (u32, Vec<Interval>)>,
 }
 
 impl About {
+    /// Whether the ends are so far from each other that what a side has sent may stand before what it sends next.
+    pub fn is_far(&self) -> bool {
+        self.round_trip.nanos().map_or(false, |nanos| nanos >= NEAR)
+    }
+
     /// What holds back a direction.
     pub fn holding(&self, side: usize, stream: u32) -> Holding<'_> {
         let stalls = if self.stalls.is_empty() { None } else { self.stalls.get(&(side, stream)) };
         let stalls = stalls.map_or(&[][..], |one| &one.1);
-        Holding { stalls, course: &self.courses[side], asked: self.opened.time }
+        Holding { stalls, course: &self.courses[side], asked: self.opened.time, turn: Nanos::MAX }
     }
 
     /// The stalls of each window, as far as they were seen.
@@ -136,7 +140,7 @@ impl Seen {
     /// Whether the frame that ended a stream may not have been seen.
     pub fn is_end_unseen(&self, ended: &Ended, until: Nanos) -> bool {
         let is_shown = matches!(ended.how, How::EndStream | How::RstStream);
-        !is_shown && (self.about.is_uncaptured || self.about.lost <= until)
+        !is_shown && self.about.lost <= until
     }
 
     /// Which SETTINGS made the initial window of a side what it was at a frame.

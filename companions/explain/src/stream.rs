@@ -105,9 +105,26 @@ pub struct Total {
     pub last: Option<Nanos>,
     pub begun: u32,
     pub ended: u32,
+    /// The stream with content that was opened last; and the packet in which one ended that had begun before it.
+    pub newest: u32,
+    pub turn: Option<Nanos>,
 }
 
 impl Total {
+    /// A direction that had content ends in a packet.
+    pub fn ends(&mut self, one: &Direction, at: At) {
+        self.ended += 1;
+        if one.first.map_or(false, |first| first.packet < at.packet) {
+            self.turn = Some(at.time);
+        }
+    }
+
+    /// Whether what begins a stream stood behind all those that were opened before it: it comes in the packet in which
+    /// the last of them ends.
+    pub fn is_turn(&self, order: u32, times: &[Nanos]) -> bool {
+        self.turn.is_some() && self.turn == times.first().copied() && self.begun == self.ended && self.newest < order
+    }
+
     /// Content came in packets at these times; a pause is one that is longer than this.
     pub fn sent(&mut self, times: &[Nanos], length: u32, pause: Nanos) {
         self.content += u64::from(length);

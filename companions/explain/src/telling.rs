@@ -22,6 +22,8 @@ use crate::walk::Asking;
 
 /// So many streams that go on are not packed, of all connections together.
 const MOST_LIVE: usize = 4096;
+/// What helps where times go back though packets were put in order.
+const LATER: &str = "reordercap";
 
 /// A connection whose frames are walked over, and where it stands among all that are told.
 struct Walked {
@@ -150,7 +152,10 @@ fn begun<'a>(
 /// What is said of a connection before its frames are; and what these are walked over with.
 fn said_at_first(made: &mut Made, audit: Audit, number: usize) -> Result<(ConnectionSaid, Option<State>), Failure> {
     let other = || broken("it has other connections");
-    let known = made.known.get_mut(number).and_then(Option::take).ok_or_else(other)?;
+    let mut known = made.known.get_mut(number).and_then(Option::take).ok_or_else(other)?;
+    if made.summary.reordered.is_some() {
+        known.help = LATER;
+    }
     let outcome = made.summary.outcomes.get(number).ok_or_else(other)?;
     let course = made.courses.connections.get(number).ok_or_else(other)?;
     if audit.record != known.record || known.opened.packet != outcome.opening {

@@ -212,10 +212,11 @@ impl Walk {
                 one.beside(&mut totals[side], cut.times, length, about.round_trip.nanos().unwrap_or(0) / 8);
             }
             one.window.content(&initials[side], if is_judged { length } else { 0 });
+            totals[side].newest = totals[side].newest.max(stream.order);
             if let Some(leaks) = &mut leaks[side] {
                 leaks.content(Some(stream), length);
             }
-            totals[side].ended += u32::from(met(stream, frame, about, initials, windows));
+            met(stream, frame, about, (initials, windows), totals);
             stream.note_use(uses_window);
         });
         if let (None, Some(leaks)) = (touched, &mut leaks[side]) {
@@ -234,8 +235,7 @@ impl Walk {
             }
             let Walk { table, initials, windows, about, uses_window, totals, .. } = self;
             table.touch(number, |stream| {
-                stream.sides[side].begin_beside(&totals[side]);
-                totals[side].ended += u32::from(met(stream, frame, about, initials, windows));
+                met(stream, frame, about, (initials, windows), totals);
                 stream.note_use(uses_window);
             });
         }
@@ -246,7 +246,7 @@ impl Walk {
     /// A stream opens by HEADERS of the client, or by a promise of the server.
     fn open(&mut self, asking: &Asking, frame: Frame<'_>, number: u32, promised_on: u32) {
         self.charts.iter_mut().for_each(|charts| charts.opened = Some(number));
-        let Walk { table, initials, about, known, windows, early_grants, .. } = self;
+        let Walk { table, initials, about, known, windows, early_grants, totals, .. } = self;
         let is_pushed = is_pushed(number);
         let ends_client = is_pushed || frame.cut.head.has(flag::END_STREAM);
         table.open(number, |order| {
@@ -261,6 +261,7 @@ impl Walk {
                     one.granted(time, amount, known.back.is_none());
                 }
                 one.kept = known.back.map(|_| Box::new(Kept::default()));
+                one.begin_beside(&totals[side]);
                 one.asked_credit = one.window.value(&initials[side]).map(|credit| credit.min(windows[side].credit));
             }
             if is_pushed {
@@ -299,8 +300,8 @@ impl Walk {
             None => return,
         };
         if !is_promise {
-            let Walk { table, initials, windows, about, .. } = self;
-            table.touch(cut.head.stream, |stream| met(stream, frame, about, initials, windows));
+            let Walk { table, initials, windows, about, totals, .. } = self;
+            table.touch(cut.head.stream, |stream| met(stream, frame, about, (initials, windows), totals));
         }
         let decoded = self.blocks[side].go_on(cut.payload, cut.head.has(flag::END_HEADERS));
         self.decoded(asking, side, decoded);
@@ -420,32 +421,42 @@ impl Walk {
     }
 }
 
-/// A frame of a stream came, that may end its direction. Answers whether it ends one that had content.
+/// A frame of a stream came, that may begin or end its direction.
 fn met(
     stream: &mut Stream,
     frame: Frame<'_>,
     about: &About,
-    initials: &[Initial; 2],
-    windows: &[ConnectionWindow; 2],
-) -> bool {
+    (initials, windows): (&[Initial; 2], &[ConnectionWindow; 2]),
+    totals: &mut [Total; 2],
+) {
     let Frame { side, cut, at, .. } = frame;
     let credit = |stream: &Stream, side: usize| {
         stream.sides[side].window.value(&initials[side]).map(|credit| credit.min(windows[side].credit))
     };
     let met = Met { times: cut.times, at, credit: credit(stream, side) };
-    stream.sides[side].met(&about.holding(side, stream.number), &met);
+    let mut holding = about.holding(side, stream.number);
+    if stream.sides[side].first.is_none() {
+        match about.is_far() && totals[side].is_turn(stream.order, cut.times) {
+            true => holding.turn = about.courses[side].sends_since,
+            false => stream.sides[side].begin_beside(&totals[side]),
+        }
+    }
+    stream.sides[side].met(&holding, &met);
     let other = 1 - side;
     if stream.sides[other].first.is_none() {
         stream.sides[other].asked_credit = credit(stream, other);
         stream.sides[other].asked = at;
+        stream.sides[other].begin_beside(&totals[other]);
     }
     let ends = cut.head.kind != kind::CONTINUATION && cut.head.has(flag::END_STREAM);
-    let is_first = stream.sides[side].end.is_none();
-    if ends {
-        stream.sides[side].window.end(&initials[side]);
-        stream.sides[side].finish_at(at);
+    let one = &mut stream.sides[side];
+    if ends && one.end.is_none() && one.content > 0 {
+        totals[side].ends(one, at);
     }
-    ends && is_first && stream.sides[side].content > 0
+    if ends {
+        one.window.end(&initials[side]);
+        one.finish_at(at);
+    }
 }
 
 /// What is left of a window.

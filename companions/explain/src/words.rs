@@ -90,12 +90,11 @@ pub fn count(number: u64, one: &str) -> String {
     format!("{} {one}{many}", grouped(number))
 }
 
-/// Why so many connections were not audited.
-pub fn reason_words(why: &str, number: u64) -> String {
-    let connections = count(number, "connection");
+/// Why connections were not audited: these, as "3 connections".
+pub fn reason_words(why: &str, connections: &str) -> String {
     let first = why.split(' ').next().unwrap_or_default();
     match (REASONS.iter().find(|reason| reason.0 == first), protocol(first)) {
-        (Some((_, words)), _) => connections + words,
+        (Some((_, words)), _) => format!("{connections}{words}"),
         (None, Some(protocol)) => format!("{connections} that spoke {protocol}"),
         (None, None) => format!("{connections} of TLS that could not be read ({why})"),
     }
@@ -131,9 +130,10 @@ mod tests {
 
     #[test]
     fn reasons() {
-        assert_eq!(reason_words("not-http2", 1), "1 connection that spoke no HTTP/2, or began by an upgrade");
-        assert_eq!(reason_words("http/1.1", 2), "2 connections that spoke HTTP/1.1");
-        assert_eq!(reason_words("gap 12", 2), "2 connections of TLS that could not be read (gap 12)");
+        let said = |why| reason_words(why, "these");
+        assert_eq!(said("not-http2"), "these that spoke no HTTP/2, or began by an upgrade");
+        assert_eq!(said("http/1.1"), "these that spoke HTTP/1.1");
+        assert_eq!(said("gap 12"), "these of TLS that could not be read (gap 12)");
         assert_eq!((code_name(3), code_name(14)), ("FLOW_CONTROL_ERROR".to_string(), "error 0xe".to_string()));
     }
 }

@@ -68,15 +68,18 @@ pub struct Side {
 #[derive(Clone, Copy, Debug, Default, PartialEq, Eq)]
 pub struct Uncaptured {
     pub bytes: u64,
-    /// In so many packets at least, none being larger than those that were captured.
+    /// In so many packets at least, none being larger than those that were captured, and than the segment size.
     pub packets: u64,
+    /// The first packet that shows them: one behind them, or the first that acknowledges those at the end.
+    pub first: Option<Arrival>,
 }
 
 /// Why TCP held back what a side sends.
 #[derive(Clone, Copy, Debug, PartialEq, Eq)]
 pub enum Why {
     /// The other side's receive window was 0: from its packet to its next one with a window above 0. The window of an
-    /// RST says nothing, nor that of an opening SYN.
+    /// RST says nothing, nor that of an opening SYN. Or the next segment did not fit in what was left of it once all
+    /// before was acknowledged, for 20 ms and more, up to the packet that made room for it.
     ZeroWindow,
     /// Bytes came that the side had sent before: since its segment with payload before that one.
     Resent,

@@ -39,6 +39,7 @@ mod plaintext;
 mod preamble;
 mod progress;
 mod reorder;
+mod room;
 mod sent;
 mod shifted;
 mod sink;

@@ -31,8 +31,12 @@ pub struct Sent {
     holes: BTreeMap<u32, u32>,
     /// The last packets, each with its time.
     recent: VecDeque<(i64, Print)>,
-    /// The offset up to which the other side acknowledged, and the longest payload.
+    /// The offset up to which the other side acknowledged, and with which packet; and the first one since when that lies
+    /// behind all bytes that came.
     acknowledged: u32,
+    raised: Option<Arrival>,
+    beyond: Option<Arrival>,
+    /// The longest payload.
     longest: u32,
     has_fin: bool,
     is_snapped: bool,
@@ -66,25 +70,35 @@ impl Sent {
     }
 
     /// The other side acknowledges.
-    pub fn acknowledge(&mut self, number: u32) {
+    pub fn acknowledge(&mut self, arrival: Arrival, number: u32) {
         let offset = self.initial.map_or(u32::MAX, |initial| offset_of(initial, number, 0));
-        if offset < END_OF_OFFSETS {
-            self.acknowledged = self.acknowledged.max(offset);
+        if offset < END_OF_OFFSETS && offset > self.acknowledged {
+            self.acknowledged = offset;
+            self.raised = Some(arrival);
+            if self.acknowledged_bytes() > self.reached {
+                self.beyond.get_or_insert(arrival);
+            }
         }
     }
 
-    /// What the other side has, though it was not captured.
-    pub fn uncaptured(&self) -> Uncaptured {
+    /// The offset behind the bytes that are acknowledged. A FIN has a number of its own, also where it was not captured.
+    fn acknowledged_bytes(&self) -> u32 {
+        let is_fin = self.has_fin || self.acknowledged == self.reached.saturating_add(1);
+        self.acknowledged.saturating_sub(u32::from(is_fin))
+    }
+
+    /// What the other side has, though it was not captured, where it takes segments of this size; and the first packet that
+    /// acknowledges what of it is at the end.
+    pub fn uncaptured(&self, size: u32) -> Uncaptured {
         let mut found = Uncaptured::default();
         if self.is_snapped {
             return found;
         }
-        // A FIN has a number of its own, also where it was not captured.
-        let is_fin = self.has_fin || self.acknowledged == self.reached.saturating_add(1);
-        let behind = (self.reached, self.acknowledged.saturating_sub(u32::from(is_fin)));
+        let behind = (self.reached, self.acknowledged_bytes());
+        found.first = self.beyond.filter(|_| behind.0 < behind.1);
         let holes = self.holes.iter().map(|(begin, end)| (*begin, (*end).min(self.acknowledged)));
         for (begin, end) in holes.chain([behind]).filter(|(begin, end)| begin < end) {
-            let (length, longest) = (u64::from(end - begin), u64::from(self.longest.max(1)));
+            let (length, longest) = (u64::from(end - begin), u64::from(self.longest.max(size)));
             found.bytes += length;
             found.packets += (length + longest - 1) / longest;
         }
@@ -162,14 +176,18 @@ impl Sent {
                 self.holes.insert(end, until);
             }
         }
-        self.reached = self.reached.max(end);
+        if end > self.reached {
+            self.reached = end;
+            // What came behind its own acknowledgement, as packets of two queues do, leaves the latest one.
+            self.beyond = if self.beyond.is_some() { self.raised } else { None };
+        }
         fresh
     }
 }
 
 #[cfg(test)]
 mod tests {
-    use super::Sent;
+    use super::{Arrival, Sent};
 
     #[test]
     fn bytes_are_new_once() {
@@ -185,24 +203,34 @@ mod tests {
     #[test]
     fn what_the_other_side_has() {
         let mut sent = Sent { initial: Some(u32::MAX), longest: 10, ..Sent::default() };
-        let uncaptured = |sent: &Sent| (sent.uncaptured().bytes, sent.uncaptured().packets);
+        let uncaptured = |sent: &Sent| (sent.uncaptured(1).bytes, sent.uncaptured(1).packets);
         for (begin, end) in [(0, 10), (35, 45), (60, 70)] {
             sent.cover(begin, end);
         }
-        sent.acknowledge(10);
+        let acknowledge =
+            |sent: &mut Sent, number| sent.acknowledge(Arrival { packet: number, nanos: 0 }, number as u32);
+        acknowledge(&mut sent, 10);
         assert_eq!(uncaptured(&sent), (0, 0));
-        sent.acknowledge(50);
+        acknowledge(&mut sent, 50);
         assert_eq!(uncaptured(&sent), (30, 4), "25 before 35, and 5 of what is missing behind 45");
-        sent.acknowledge(45);
+        acknowledge(&mut sent, 45);
         assert_eq!(uncaptured(&sent), (30, 4));
-        sent.acknowledge(71);
+        acknowledge(&mut sent, 71);
         assert_eq!(uncaptured(&sent), (40, 5), "the last number is that of a FIN");
-        sent.acknowledge(75);
-        assert_eq!(uncaptured(&sent), (45, 6));
+        let beyond = |sent: &Sent| sent.uncaptured(1).first.map(|arrival| arrival.packet);
+        assert_eq!(beyond(&sent), None);
+        acknowledge(&mut sent, 75);
+        acknowledge(&mut sent, 76);
+        assert_eq!((uncaptured(&sent), beyond(&sent)), ((46, 6), Some(75)));
+        sent.cover(70, 72);
+        assert_eq!((uncaptured(&sent), beyond(&sent)), ((44, 6), Some(76)), "the latest of what is left");
         sent.has_fin = true;
-        assert_eq!(uncaptured(&sent), (44, 6));
-        sent.acknowledge(1 << 31);
-        assert_eq!(uncaptured(&sent), (44, 6), "no side sends so much at once");
+        assert_eq!(uncaptured(&sent), (43, 6));
+        acknowledge(&mut sent, 1 << 31);
+        assert_eq!(uncaptured(&sent), (43, 6), "no side sends so much at once");
+        sent.cover(72, 75);
+        assert_eq!((uncaptured(&sent), beyond(&sent)), ((40, 5), None));
+        assert_eq!(sent.uncaptured(20).packets, 3, "of the segment size");
         assert_eq!(uncaptured(&Sent { is_snapped: true, ..sent }), (0, 0));
     }
 }

@@ -5,13 +5,16 @@ use std::num::NonZeroU64;
 use captures::{flags, Arrival, Segment};
 use tls::{CLIENT, SERVER};
 
-use crate::course::{Again, Course, Held, Why, NEVER};
+use crate::course::{Again, Course, Held, Uncaptured, Why, NEVER};
+use crate::room::{Limits, Room};
 use crate::sent::{Fresh, Sent};
 use crate::ways::{Brief, Sending, Way};
 
 #[derive(Default)]
 pub struct Tracked {
     sides: [State; 2],
+    /// By how much each side's windows are shifted, as its SYN says.
+    shifts: [Option<Option<u8>>; 2],
 }
 
 /// What is known of one side besides its course.
@@ -22,8 +25,9 @@ struct State {
     closed: Option<Arrival>,
     /// Since when bytes of it are missing.
     holed: Option<Arrival>,
-    /// What it sent, until the other side acknowledges it.
+    /// What it sent, until the other side acknowledges it; and how much of that one's window is left.
     way: Way,
+    room: Room,
 }
 
 impl Tracked {
@@ -48,9 +52,9 @@ impl Tracked {
         self.count(course, side, arrival, (segment, &brief));
         if has(flags::ACK) && !has(flags::RST) {
             course.sides[side].acknowledges |= !has(flags::SYN);
-            self.sides[1 - side].sent.acknowledge(segment.acknowledgement);
+            self.sides[1 - side].sent.acknowledge(arrival, segment.acknowledgement);
         }
-        self.window(course, side, arrival, segment);
+        self.window(course, side, arrival, (segment, &brief));
         if let Some(took) = self.sides[1 - side].way.answered(arrival, &brief) {
             let least = &mut course.ways[side];
             *least = Some(least.map_or(took, |least| least.min(took)));
@@ -88,8 +92,13 @@ impl Tracked {
                 }
             }
         }
-        if let Some(from) = held_back {
+        if let Some(from) = held_back.filter(|_| !state.room.was_full(brief.payload)) {
             course.held.push(held(Why::Nagle, side, from, Some(arrival)));
+        }
+        if let (Fresh::Bytes { again: 0, .. }, Some(size)) = (fresh, state.way.segment_size()) {
+            let limits = Limits { size, way: course.ways[1 - side] };
+            let waited = state.room.sent(arrival, brief, limits);
+            course.held.extend(waited.map(|(from, to)| held(Why::ZeroWindow, side, from, Some(to))));
         }
         known.segments += 1;
         if state.sent.has_hole() {
@@ -99,8 +108,25 @@ impl Tracked {
         }
     }
 
+    /// How large the window is of which a segment tells; of a SYN it is not shifted.
+    fn window_of(&self, side: usize, segment: &Segment<'_>) -> Option<u32> {
+        let shift = match self.shifts {
+            _ if segment.flags & flags::SYN != 0 => 0,
+            [Some(Some(client)), Some(Some(server))] => [client, server][side],
+            [Some(_), Some(_)] => 0,
+            _ => return None,
+        };
+        Some(u32::from(segment.window) << shift)
+    }
+
     /// Notes the receive window, which holds back what the other side sends.
-    fn window(&mut self, course: &mut Course, side: usize, arrival: Arrival, segment: &Segment<'_>) {
+    fn window(&mut self, course: &mut Course, side: usize, arrival: Arrival, (segment, brief): (&Segment<'_>, &Brief)) {
+        if segment.flags & flags::SYN != 0 {
+            self.shifts[side] = Some(brief.shift);
+        }
+        if let Some(window) = self.window_of(side, segment) {
+            self.sides[1 - side].room.answered(arrival, brief, window);
+        }
         let closed = &mut self.sides[side].closed;
         let is_opening = segment.flags & (flags::SYN | flags::ACK) == flags::SYN;
         if segment.flags & flags::RST != 0 || is_opening {
@@ -117,7 +143,9 @@ impl Tracked {
     pub fn finish(self, course: &mut Course) {
         for (side, state) in self.sides.into_iter().enumerate() {
             course.sides[side].lost = state.holed;
-            course.sides[side].uncaptured = state.sent.uncaptured();
+            let found = state.sent.uncaptured(state.way.largest());
+            let first = state.holed.filter(|_| found.bytes > 0).into_iter().chain(found.first);
+            course.sides[side].uncaptured = Uncaptured { first: first.min_by_key(|one| one.nanos), ..found };
             course.held.extend(state.closed.map(|from| held(Why::ZeroWindow, 1 - side, from, None)));
         }
         course.held.shrink_to_fit();

@@ -15,6 +15,9 @@ const FIRST_CONGESTION_WINDOW: u32 = 10;
 /// Options that take away from the segment size, as the timestamps of each segment do (RFC 7323, 3.2).
 const OPTIONS: u32 = 12;
 const TCP_HEADER: usize = 20;
+/// What every side takes (RFC 9293, 3.7.1).
+const LEAST_SIZE: u32 = 536;
+const MOST_SHIFTED: u8 = 14;
 
 /// What one side sent, as far as the other one's acknowledgements are to be told from it.
 #[derive(Debug, Default)]
@@ -53,28 +56,30 @@ pub struct Sending {
 /// What of a segment the two ways of a connection are told by.
 #[derive(Clone, Copy, Debug, Default)]
 pub struct Brief {
-    sequence: u32,
-    acknowledgement: u32,
-    flags: u8,
-    payload: u32,
-    /// The largest segment that its side takes, as a SYN says.
-    size: Option<u32>,
+    pub sequence: u32,
+    pub acknowledgement: u32,
+    pub flags: u8,
+    pub payload: u32,
+    /// The largest segment that its side takes, and by how much its windows are shifted, as a SYN says.
+    pub size: Option<u32>,
+    pub shift: Option<u8>,
 }
 
 impl Brief {
     pub fn of(segment: &Segment<'_>) -> Brief {
         let Segment { sequence, acknowledgement, flags, .. } = *segment;
-        let size = if flags & flags::SYN != 0 { size_of(segment) } else { None };
-        Brief { sequence, acknowledgement, flags, payload: segment.payload().len() as u32, size }
+        let payload = segment.payload().len() as u32;
+        let (size, shift) = if flags & flags::SYN != 0 { options_of(segment) } else { (None, None) };
+        Brief { sequence, acknowledgement, flags, payload, size, shift }
     }
 
-    fn has(&self, flag: u8) -> bool {
+    pub fn has(&self, flag: u8) -> bool {
         self.flags & flag != 0
     }
 }
 
 /// Whether one sequence number stands behind another (RFC 9293, 3.4).
-fn is_behind(one: u32, other: u32) -> bool {
+pub fn is_behind(one: u32, other: u32) -> bool {
     (one.wrapping_sub(other) as i32) > 0
 }
 
@@ -115,9 +120,19 @@ impl Way {
         first
     }
 
+    /// The largest segment that the other side takes.
+    pub fn largest(&self) -> u32 {
+        self.size.unwrap_or(LEAST_SIZE)
+    }
+
+    /// How many bytes a whole segment of the side has.
+    pub fn segment_size(&self) -> Option<u32> {
+        self.size.map(|size| size.saturating_sub(OPTIONS))
+    }
+
     /// Whether the piece had to wait until all before it was acknowledged, and was sent at once then.
     fn held(&self, arrival: Arrival, payload: u32) -> Option<Arrival> {
-        let ((last, outstanding), free, size) = (self.last?, self.free?, self.size?.saturating_sub(OPTIONS));
+        let ((last, outstanding), free, size) = (self.last?, self.free?, self.segment_size()?);
         let pause = arrival.nanos.saturating_sub(last.nanos);
         let is_at_once = arrival.nanos.saturating_sub(free) <= pause / AT_ONCE;
         let is_free = outstanding <= size.saturating_mul(FIRST_CONGESTION_WINDOW);
@@ -149,17 +164,22 @@ impl Way {
     }
 }
 
-/// The largest segment that a side takes (RFC 9293, 3.2), as its SYN says.
-fn size_of(segment: &Segment<'_>) -> Option<u32> {
+/// The largest segment that a side takes (RFC 9293, 3.2), and the shift of its windows (RFC 7323, 2.2), as its SYN says.
+fn options_of(segment: &Segment<'_>) -> (Option<u32>, Option<u8>) {
     let headers = segment.headers().concat();
-    let mut options = headers.get(segment.tcp + TCP_HEADER..)?;
+    let (mut size, mut shift) = (None, None);
+    let mut options = headers.get(segment.tcp + TCP_HEADER..).unwrap_or_default();
     loop {
         match *options {
-            [2, 4, high, low, ..] => return Some(u32::from(u16::from_be_bytes([high, low]))),
-            [1, ref behind @ ..] => options = behind,
-            [kind, length, ..] if kind > 1 && length >= 2 => options = options.get(usize::from(length)..)?,
-            _ => return None,
+            [2, 4, high, low, ..] => size = Some(u32::from(u16::from_be_bytes([high, low]))),
+            [3, 3, by, ..] => shift = Some(by.min(MOST_SHIFTED)),
+            _ => {}
         }
+        options = match *options {
+            [1, ref behind @ ..] => behind,
+            [kind, length, ..] if kind > 1 && length >= 2 => options.get(usize::from(length)..).unwrap_or_default(),
+            _ => return (size, shift),
+        };
     }
 }
 

@@ -1,9 +1,11 @@
 //! What fails a run in CI: the reasons that a command line may name, and what holds of each in an answer.
 
 use explain::answer::{is_pushed, At, CauseKind, ConnectionSaid, Files, How, Nanos, Request, Share};
-use reports::{grouped, sentence_of, Side};
+use explain::words::reason_words;
+use reports::{grouped, Side};
 
 use crate::document::signal_word;
+use crate::faults::told;
 use crate::summing::{is_held, Connection, Whole};
 use crate::wording::{code_name, escaped, grpc_name, time_of};
 
@@ -159,14 +161,14 @@ impl Finding<'_> {
     fn of_connection(&mut self, one: &ConnectionSaid) {
         let place = (one.number, None);
         if !one.is_audited() {
-            self.add(Reason::NotAudited, place, || format!("not audited: {}", why_not_audited(one)));
+            self.add(Reason::NotAudited, place, || not_audited_words(one));
         }
-        for fault in &one.faults {
-            let doubt = if fault.doubt.is_empty() { String::new() } else { format!("; doubtful: {}", fault.doubt) };
-            let (sentence, packet) = (sentence_of(&fault.finding, ""), self.packet(fault.at));
-            let text = format!("{sentence}; packet {packet}, frame {}{doubt}", fault.at.frame);
+        for told in told(one) {
+            let (fault, packet) = (told.fault, format!("packet {}", self.packet(told.fault.at)));
+            let doubt = if fault.is_doubtful() { format!("; doubtful: {}", fault.doubt) } else { String::new() };
+            let text = told.sentence(&packet) + &doubt;
             self.add(Reason::Fault, place, || text.clone());
-            if fault.doubt.is_empty() {
+            if !fault.is_doubtful() {
                 self.add(Reason::CertainFault, place, || text);
             }
         }
@@ -241,6 +243,12 @@ pub fn why_not_audited(one: &ConnectionSaid) -> &str {
         "" => one.outcome.name(),
         reason => reason,
     }
+}
+
+/// The reason, and what it means.
+pub fn not_audited_words(one: &ConnectionSaid) -> String {
+    let why = why_not_audited(one);
+    format!("not audited ({why}): {}", reason_words(why, "a connection"))
 }
 
 pub fn name_of(request: &Request) -> String {

@@ -7,7 +7,7 @@ use std::io::{self, Write};
 
 use explain::answer::Nanos;
 
-use crate::gates::{name_of, why_not_audited, Failure, Place};
+use crate::gates::{name_of, not_audited_words, Failure, Place};
 use crate::summing::{Connection, Whole};
 use crate::wording::escaped;
 
@@ -153,7 +153,7 @@ impl<'a> Suite<'a> {
                     name: "connection".to_string(),
                     nanos: self.nanos(),
                     said: self.lines(one.said.notes.iter().cloned(), place),
-                    skipped: (!one.said.is_audited()).then(|| format!("not audited: {}", why_not_audited(one.said))),
+                    skipped: (!one.said.is_audited()).then(|| not_audited_words(one.said)),
                     failures: self.failures(place),
                 }
             }

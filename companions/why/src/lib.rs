@@ -11,6 +11,7 @@ pub mod ends;
 mod ends_requests;
 mod ends_said;
 mod ends_stalls;
+mod faults;
 mod gates;
 mod junit;
 mod life;

@@ -1,6 +1,6 @@
 //! The whole life of a request in one line: what took a twentieth of it, by sides (docs/WHY.md, 4).
 
-use explain::answer::{CauseKind, CauseWhy, Nanos, Request, Share};
+use explain::answer::{CauseKind, How, Nanos, Request, Share};
 use reports::Side;
 
 use crate::wording::{percent, time_of, SIDES};
@@ -54,7 +54,8 @@ fn parts_of(request: &Request, side: Side) -> [Part; 7] {
     let share = |share: Share| said.shares[share as usize];
     let part = |nanos, side, what| Part { nanos, side, what };
     // Who never answered a request that never ended need not have taken any time.
-    let waits_for_end = said.first.is_none() && request.cause.why == CauseWhy::Between && request.cause.side != side;
+    let (other, ended) = (&request.sides[side.other() as usize], &request.ended);
+    let waits_for_end = said.first.is_none() && ended.how != How::EndStream && other.end == ended.at;
     let took = if waits_for_end { 0 } else { said.waited };
     let stalled = share(Share::StreamStall) + share(Share::ConnectionStall);
     [

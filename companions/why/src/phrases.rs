@@ -233,7 +233,7 @@ impl<'a> Phrases<'a> {
     fn whose(&self, cause: &Cause) -> String {
         match (cause.kind, cause.why) {
             (CauseKind::ConnectionWindow, _) => self.of_connection(cause),
-            (CauseKind::StreamWindow, CauseWhy::Stalls(StallWhy::RoundTrip | StallWhy::GrantedNothing)) => {
+            (CauseKind::StreamWindow, CauseWhy::Stalls(why)) if why != StallWhy::GrantLost => {
                 self.initial_window(cause).unwrap_or_default()
             }
             _ => String::new(),
@@ -365,7 +365,7 @@ fn whose(cause: &Cause) -> &'static str {
 fn tcp_words(cause: &Cause) -> String {
     let (side, other) = (cause.side, cause.side.other());
     match cause.why {
-        CauseWhy::ZeroWindow => format!("the {other}'s TCP window was 0"),
+        CauseWhy::ZeroWindow => format!("the {other}'s TCP window was used up"),
         CauseWhy::Resent => format!("TCP sent bytes of the {side} again"),
         CauseWhy::Hole => format!("bytes of the {side} came out of order or again"),
         CauseWhy::Nagle => format!(

@@ -1,6 +1,6 @@
 //! The answer as rows for a database, which stand behind those of the report ([`reports::rows`]): a line of JSON for each
-//! request, each of its directions, and each fault. Letters that a terminal would act on are escapes in names, and long
-//! names are cut.
+//! request, each of its directions, each fault, and each connection that was not audited. Letters that a terminal would
+//! act on are escapes in names, and long names are cut.
 
 use std::io::{self, Write};
 
@@ -9,7 +9,7 @@ use reports::rows::row;
 use reports::Side;
 
 use crate::document::{cause_side, certainty_name, kind_name, why_name};
-use crate::gates::stalled;
+use crate::gates::{stalled, why_not_audited};
 use crate::json::Json;
 use crate::phrases::{how_name, Phrases};
 use crate::summing::Whole;
@@ -23,6 +23,9 @@ pub fn write(whole: &Whole<'_>, to: &mut dyn Write) -> io::Result<()> {
     let mut json = Json::new(to);
     for one in &whole.connections {
         let number = one.said.number;
+        if !one.said.is_audited() {
+            row(&mut json, |json| reason(json, number, why_not_audited(one.said)))?;
+        }
         for fault in &one.said.faults {
             row(&mut json, |json| certainty(json, number, fault))?;
         }
@@ -34,6 +37,12 @@ pub fn write(whole: &Whole<'_>, to: &mut dyn Write) -> io::Result<()> {
         }
     }
     json.finish()
+}
+
+fn reason(json: &mut Json<'_>, connection: u64, why: &str) {
+    json.word("reasons");
+    json.number(connection);
+    json.text(why);
 }
 
 fn certainty(json: &mut Json<'_>, connection: u64, fault: &FaultSaid) {

@@ -5,10 +5,11 @@ use std::fmt::Write as _;
 use std::io::{self, Write};
 
 use explain::answer::{is_pushed, CauseKind, RoundTrip};
-use explain::answer::{At, ConnectionSaid, FaultSaid, How, Place, Request, Signal, Source, StallSaid};
-use reports::{grouped, sentence_of, Side};
+use explain::answer::{At, ConnectionSaid, How, Place, Request, Signal, Source, StallSaid};
+use reports::{grouped, Side};
 
 use crate::document::signal_word;
+use crate::faults::{told, Told};
 use crate::life::life_of;
 use crate::page::{Colour, Look, Page};
 use crate::phrases::how_name;
@@ -26,7 +27,7 @@ const PROVED: &str = "Faults and stalls are those of h2audit's proved report. Na
                       place of capture are not: h2audit-why reads them from the frames and the packets.";
 
 /// The side that waited for the connection's window, and why: told once, with the stream of which it was told.
-type Told = HashMap<(Side, String), u32>;
+type Waited = HashMap<(Side, String), u32>;
 
 pub fn write(whole: &Whole<'_>, look: Look, to: &mut dyn Write) -> io::Result<()> {
     let answer = whole.answer;
@@ -100,39 +101,20 @@ fn head(said: &ConnectionSaid) -> String {
     }
 }
 
-/// Each fault that is certain; those that can be doubted once for a stream.
 fn faults(said: &ConnectionSaid, page: &mut Page<'_>) -> io::Result<()> {
-    let mut told: Vec<(&FaultSaid, u64)> = Vec::new();
-    let mut places = HashMap::<_, usize>::new();
-    for one in &said.faults {
-        let finding = &one.finding;
-        let of = (finding.kind.name(), finding.side, finding.stream, one.certainty as u8);
-        match places.get(&of) {
-            Some(place) if one.is_doubtful() => told[*place].1 += 1,
-            _ => {
-                places.insert(of, told.len());
-                told.push((one, 1));
-            }
-        }
-    }
+    let told = told(said);
     let most = if page.look.is_all { told.len() } else { told.len().min(MOST_FAULTS) };
-    told[..most].iter().try_for_each(|(one, times)| fault(one, *times, page))?;
-    match told[most..].iter().map(|one| one.1).sum::<u64>() {
+    told[..most].iter().try_for_each(|one| fault(one, page))?;
+    match told[most..].iter().map(|one| one.times).sum::<u64>() {
         0 => Ok(()),
         more => page.line(&format!("  {} more: --all", count(more, "fault"))),
     }
 }
 
-fn fault(one: &FaultSaid, times: u64, page: &mut Page<'_>) -> io::Result<()> {
-    let place = format!("{}, frame {}", page.packet(Some(one.at)), one.at.frame);
-    let mut text = match (one.is_doubtful(), times) {
-        (false, _) => format!("  FAULT: {}; {place}", sentence_of(&one.finding, "")),
-        (true, 1) => format!("  DOUBTFUL FAULT: {}; {place}", sentence_of(&one.finding, "")),
-        (true, _) => {
-            let more = format!(", {} times on this stream", grouped(times));
-            format!("  DOUBTFUL FAULT: {}; first in {place}", sentence_of(&one.finding, &more))
-        }
-    };
+fn fault(told: &Told<'_>, page: &mut Page<'_>) -> io::Result<()> {
+    let one = told.fault;
+    let doubtful = if one.is_doubtful() { "DOUBTFUL " } else { "" };
+    let mut text = format!("  {doubtful}FAULT: {}", told.sentence(&page.packet(Some(one.at))));
     if !one.set_text.is_empty() {
         let _ = write!(text, "; its window: {}", one.set_text);
     }
@@ -157,7 +139,7 @@ fn requests(one: &Connection<'_>, page: &mut Page<'_>) -> io::Result<()> {
     let shown: Vec<usize> = ranks.iter().filter(is_shown).map(|rank| rank.3).collect();
     let found = || shown.iter().filter_map(|index| one.said.requests.get(*index));
     let width = found().map(|request| letters(&name_of(&request))).max().unwrap_or(0).min(MOST_COLUMNS);
-    let (mut told, mut held) = (Told::new(), 0);
+    let (mut told, mut held) = (Waited::new(), 0);
     for request in found() {
         held += u64::from(is_held(&request));
         let colour = match () {
@@ -184,7 +166,7 @@ fn name_of(request: &Request) -> String {
 }
 
 /// What held back a request; where the connection's window did, what it was is told once.
-fn cause(request: &Request, text: &str, told: &mut Told) -> String {
+fn cause(request: &Request, text: &str, told: &mut Waited) -> String {
     if request.cause.kind != CauseKind::ConnectionWindow {
         return text.to_string();
     }
