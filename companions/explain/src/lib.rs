@@ -24,6 +24,7 @@ mod cutter;
 mod doubts;
 mod files;
 mod findings;
+mod frame_log;
 pub mod frames;
 mod hung;
 pub mod intervals;
@@ -33,7 +34,6 @@ mod life;
 #[cfg(test)]
 mod life_by_nanosecond;
 mod listening;
-mod made;
 mod marks;
 mod names;
 mod packed;

@@ -34,7 +34,6 @@ mod others;
 mod outcomes;
 mod plaintext;
 mod preamble;
-mod progress;
 mod reorder;
 mod sent;
 mod shifted;
