@@ -1,5 +1,7 @@
 //! The second walk over one connection: its frames, and at its end all that is said of it.
 
+use std::rc::Rc;
+
 use captures::Arrival;
 use programs::Failure;
 
@@ -43,7 +45,7 @@ pub struct Connection {
 impl Connection {
     /// Of what the import, the first walk and the report say.
     pub fn new(
-        known: Known,
+        known: Box<Known>,
         audit: Audit,
         course: &mut import::Course,
         asking: &Asking,
@@ -105,7 +107,7 @@ impl Connection {
     }
 
     /// All that is said of it, and what its requests are told from.
-    pub fn end(mut self, said: &mut ConnectionSaid) -> Result<(Packed, Seen), Failure> {
+    pub fn end(mut self, said: &mut ConnectionSaid) -> Result<Rc<(Packed, Seen)>, Failure> {
         if u64::from(self.walk.number) != self.frames {
             let (number, frames, here) = (said.number, self.frames, self.walk.number);
             let why = format!("connection {number} has {frames} frames by the report, and {here} here");
@@ -205,7 +207,7 @@ fn leaks_of(stalls: &[StallSaid]) -> [Option<Box<Leaks>>; 2] {
 
 type CutFrames = [Option<(u32, Box<[Nanos]>)>; 2];
 
-fn ended(walk: Walk, said: &mut ConnectionSaid) -> (Packed, Seen) {
+fn ended(walk: Walk, said: &mut ConnectionSaid) -> Rc<(Packed, Seen)> {
     let Walk { mut about, known, table, initials, windows, settings, blocks, signals, findings, leaks, .. } = walk;
     let Walk { unanswered, bursts, unshown, mut uses_window, stop, charts, .. } = walk;
     let is_kept = known.back.is_some();
@@ -249,7 +251,7 @@ fn ended(walk: Walk, said: &mut ConnectionSaid) -> (Packed, Seen) {
         changes,
         about,
     };
-    (packed, seen)
+    Rc::new((packed, seen))
 }
 
 fn stalls_and_leaks(said: &mut ConnectionSaid, mut stalls: Vec<StallSaid>, leaks: [Option<Box<Leaks>>; 2]) {
@@ -285,6 +287,8 @@ fn finish(stream: &mut Stream, about: &About, goaways: Goaways<'_>, cuts: Option
 fn first_answer(known: &Known, round_trip: &RoundTrip, side: usize) -> Option<String> {
     let (took, way) = (known.quickest[side].first?, round_trip.nanos()?);
     let is_own = round_trip.source == Some(Source::Tcp) && took >= LONG_ANSWER && took >= way.saturating_mul(LONG);
-    let (side, took, way) = (side_of(side), time_of(took), time_of(way));
-    is_own.then(|| format!("the {side}'s first answer took {took}: its own time, since a round trip takes {way}"))
+    is_own.then(|| {
+        let (side, took, way) = (side_of(side), time_of(took), time_of(way));
+        format!("the {side}'s first answer took {took}: its own time, since a round trip takes {way}")
+    })
 }

@@ -121,8 +121,8 @@ impl Walk<'_> {
         };
         begun(&mut walked.state, &mut self.courses.connections[number], &self.asking)?;
         if let State::Begun(connection) = walked.state {
-            let (packed, seen) = connection.end(&mut self.answer.connections[walked.index])?;
-            self.answer.connections[walked.index].requests = Requests::of(packed, seen);
+            let said = &mut self.answer.connections[walked.index];
+            said.requests = Requests::of(connection.end(said)?);
         }
         Ok(())
     }
@@ -156,7 +156,7 @@ fn begun<'a>(
     asking: &Asking,
 ) -> Result<&'a mut Connection, Failure> {
     *state = match std::mem::replace(state, State::Over) {
-        State::Ahead(known, audit) => State::Begun(Box::new(Connection::new(*known, *audit, course, asking)?)),
+        State::Ahead(known, audit) => State::Begun(Box::new(Connection::new(known, *audit, course, asking)?)),
         begun => begun,
     };
     match state {
