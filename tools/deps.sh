@@ -14,7 +14,7 @@ needed+=(libjs-dygraphs chromium chromium-driver python3-selenium poppler-utils)
 needed+=(python3-cryptography python3-zstandard zstd tcpdump openssl)
 # Of the programs in Rust.
 needed+=(cargo rustc rustfmt rust-clippy clang pkg-config libssl-dev libzstd-dev liblzma-dev libbz2-dev)
-needed+=(librust-{atty,bzip2,crc32fast,flate2,itoa,lexopt,memchr,once-cell,openssl,rlimit}-dev)
+needed+=(librust-{atty,bzip2,flate2,itoa,lexopt,memchr,once-cell,openssl,rlimit}-dev)
 needed+=(librust-{signal-hook,tempfile,terminal-size,xz2,zstd}-dev)
 # Of many captures and their tests.
 needed+=(python3-distributed sqlite3 parallel iproute2)

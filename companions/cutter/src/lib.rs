@@ -12,6 +12,8 @@ pub const HEADER: usize = 9;
 const STREAM: u32 = (1 << 31) - 1;
 /// So many different times of packets of one frame are kept.
 const MOST_TIMES: usize = 1 << 20;
+/// So much room is kept from frame to frame.
+const MOST_ROOM: usize = 256;
 
 /// Types of frames, by section 6 of RFC 9113.
 pub mod kind {
@@ -53,6 +55,13 @@ impl Head {
             flags,
             stream: u32::from_be_bytes([a, b, c, d]) & STREAM,
         }
+    }
+
+    /// As it stands in front of its payload.
+    pub fn octets(&self) -> [u8; HEADER] {
+        let [_, high, middle, low] = self.length.to_be_bytes();
+        let [a, b, c, d] = self.stream.to_be_bytes();
+        [high, middle, low, self.kind, self.flags, a, b, c, d]
     }
 
     pub fn has(&self, flag: u8) -> bool {
@@ -204,8 +213,19 @@ impl Cutter {
         if self.rest == 0 {
             self.begun = 0;
             give(&Cut { head, payload: &self.kept, times: &self.times });
+            self.let_go();
         }
         behind
+    }
+
+    /// Keeps no room that few frames need.
+    fn let_go(&mut self) {
+        if self.kept.capacity() > MOST_ROOM {
+            self.kept = Vec::new();
+        }
+        if self.times.capacity() > MOST_ROOM {
+            self.times = Vec::new();
+        }
     }
 
     fn note(&mut self, time: Nanos) {

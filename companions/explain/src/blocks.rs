@@ -111,11 +111,8 @@ pub fn asked_of(fields: &Fields, names: Names, interner: &mut Interner) -> Asked
         None => 0,
         Some(octets) => {
             let text = text_of(octets);
-            let text = match text.split_once('?') {
-                Some((path, _)) if is_path && !names.has_query => path,
-                _ => &text,
-            };
-            interner.number(shortened(text))
+            let query = if is_path && !names.has_query { text.find('?') } else { None };
+            interner.number(shortened(&text[..query.unwrap_or(text.len())]))
         }
     };
     Asked {

@@ -2,7 +2,9 @@
 
 use std::ffi::OsString;
 use std::fs::File;
+use std::io;
 use std::path::Path;
+use std::time::Instant;
 
 use import::{Courses, Sink, Summary};
 use originals::Keeping;
@@ -11,9 +13,9 @@ use programs::{program_named, temporary_failure, Failure, PrivateFile};
 use crate::answer::{Answer, Files};
 use crate::audit::{broken, Audit};
 use crate::doubts::{doubts_of, not_audited};
+use crate::frame_log::{Entry, Found, FrameLog};
 use crate::learning::{Known, Learned, Learning};
 use crate::listening::Listening;
-use crate::made::{each_record, Notes};
 use crate::reported::{audited, of_original, read_report, ReportTo, Reported};
 use crate::telling::tell;
 
@@ -45,7 +47,7 @@ pub struct Asked<'a> {
 /// What was made, and what is known of it.
 pub struct Made {
     pub capture: PrivateFile,
-    pub notes: Notes,
+    pub log: FrameLog,
     pub summary: Summary,
     pub courses: Courses,
     /// By the import's numbers.
@@ -56,6 +58,8 @@ pub struct Made {
     /// Files that end within a packet, and the number of that packet in each.
     pub cuts: Vec<(usize, u64)>,
     pub addresses: import::Addresses,
+    /// When the work began.
+    pub begun: Instant,
 }
 
 /// Imports the files, audits what is made, and says what it means.
@@ -104,6 +108,7 @@ fn answer_by(asked: &Asked<'_>, mut made: Made, audits: Vec<Audit>) -> Result<An
 }
 
 fn make(asked: &Asked<'_>, keeping: Option<Keeping>) -> Result<(Made, Option<Keeping>), Failure> {
+    let begun = Instant::now();
     let mut capture = PrivateFile::new()?;
     let mut listening = Listening { learning: Learning::new()?, keeping };
     let mut courses = Courses::default();
@@ -120,31 +125,22 @@ fn make(asked: &Asked<'_>, keeping: Option<Keeping>) -> Result<(Made, Option<Kee
             .flat_map(|one| &mut one.sides)
             .for_each(|side| side.uncaptured = Default::default());
     }
-    let Learning { connections, order, files, addresses, mut notes, cuts, .. } = listening.learning;
-    let learned = learned_anew(connections, &mut capture, &mut notes)?;
-    let known = learned.into_iter().map(|one| one.map(|one| Box::new(one.known()))).collect();
-    Ok((Made { capture, notes, summary, courses, known, order, files, cuts, addresses }, listening.keeping))
+    let Learning { mut connections, order, files, addresses, mut log, cuts, .. } = listening.learning;
+    place_early(&mut connections, &mut log).map_err(|error| temporary_failure(&error))?;
+    let known = connections.into_iter().map(|one| one.map(|one| Box::new(one.known()))).collect();
+    Ok((Made { capture, log, summary, courses, known, order, files, cuts, addresses, begun }, listening.keeping))
 }
 
-/// Reads connections once more whose server sent bytes before its initial sequence number was known.
-fn learned_anew(
-    mut learned: Vec<Option<Box<Learned>>>,
-    capture: &mut PrivateFile,
-    notes: &mut Notes,
-) -> Result<Vec<Option<Box<Learned>>>, Failure> {
-    let mut again: Vec<Option<Box<Learned>>> =
-        learned.iter().map(|one| one.as_ref().and_then(|one| one.anew())).collect();
-    if again.iter().all(Option::is_none) {
-        return Ok(learned);
+/// Goes on with connections whose server sent bytes before its initial sequence number was known.
+fn place_early(connections: &mut [Option<Box<Learned>>], log: &mut FrameLog) -> io::Result<()> {
+    if !connections.iter().flatten().any(|one| one.is_early()) {
+        return Ok(());
     }
-    each_record(capture, notes, |record| {
-        if let Some(Some(one)) = again.get_mut(record.connection) {
-            one.take(record.number, record.at, record.side, (record.sequence, record.flags), record.payload);
+    let mut reader = log.reader()?;
+    while let Some(Entry { came, found }) = reader.next()? {
+        if let (Found::Unplaced(payload), Some(Some(one))) = (found, connections.get_mut(came.connection)) {
+            one.place(&came, &payload, log)?;
         }
-        Ok(())
-    })?;
-    for (one, again) in learned.iter_mut().zip(again) {
-        *one = again.or_else(|| one.take());
     }
-    Ok(learned)
+    Ok(())
 }

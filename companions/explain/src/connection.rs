@@ -1,6 +1,8 @@
-//! The second walk over one connection: its bytes in order, their frames, and at its end all that is said of it.
+//! The second walk over one connection: its frames, and at its end all that is said of it.
 
-use captures::{placed, Arrival, Flow};
+use std::rc::Rc;
+
+use captures::Arrival;
 use programs::Failure;
 
 use crate::answer::{ConnectionSaid, Nanos, RoundTrip, Source, StallSaid, StallWhy};
@@ -8,14 +10,13 @@ use crate::audit::{broken, Audit};
 use crate::blocks::Blocks;
 use crate::charts::Charts;
 use crate::course::{Course, Waits};
-use crate::cutter::{kind, Cutter, Head};
 use crate::doubts::limits_of;
 use crate::findings::Findings;
+use crate::frame_log::{self, Came};
 use crate::frames::Frames;
 use crate::intervals::Stretches;
 use crate::leaks::{Candidate, Leaks};
 use crate::learning::Known;
-use crate::made::Record;
 use crate::requests::Packed;
 use crate::rounds::round_trip_of;
 use crate::seen::{end_of, About, Goaways, Seen, WindowStalls};
@@ -30,37 +31,21 @@ use crate::walk::{Asking, Walk, MOST_KEPT};
 use crate::windows::FIRST_CREDIT;
 use crate::words::time_of;
 
-/// What of a field block is wanted: enough to see that it is too long.
-const MOST_FIELDS: usize = hpack::LONGEST_BLOCK + 512;
-const MOST_GOAWAY: usize = 8 + 1024;
 /// The time of a first answer is told where it is so long, and so many round trips.
 const LONG_ANSWER: Nanos = 100_000_000;
 const LONG: Nanos = 4;
 
 /// A connection whose frames come.
 pub struct Connection {
-    flows: [Flow; 2],
-    cutters: [Cutter; 2],
     walk: Walk,
     frames: u64,
     all_frames: Option<Frames>,
 }
 
-fn wants(head: &Head) -> usize {
-    match head.kind {
-        kind::DATA => 1,
-        kind::HEADERS | kind::PUSH_PROMISE | kind::CONTINUATION => MOST_FIELDS,
-        kind::RST_STREAM | kind::WINDOW_UPDATE => 4,
-        kind::SETTINGS => head.length as usize,
-        kind::GOAWAY => MOST_GOAWAY,
-        _ => 0,
-    }
-}
-
 impl Connection {
     /// Of what the import, the first walk and the report say.
     pub fn new(
-        known: Known,
+        known: Box<Known>,
         audit: Audit,
         course: &mut import::Course,
         asking: &Asking,
@@ -98,33 +83,17 @@ impl Connection {
             about,
             known,
         };
-        Ok(Connection {
-            flows: Default::default(),
-            cutters: [true, false].map(|is_client| Cutter::new(is_client, wants)),
-            walk,
-            frames,
-            all_frames,
-        })
+        Ok(Connection { walk, frames, all_frames })
     }
 
-    /// Takes a record of it.
-    pub fn take(&mut self, asking: &mut Asking, record: &Record<'_>) -> Result<(), Failure> {
-        let Record { number, at, side, sequence, flags, payload, .. } = *record;
-        let placed = self.walk.known.initials[side].and_then(|initial| placed(initial, sequence, flags, payload));
-        let (offset, data) = match placed {
-            Some(placed) => placed,
-            None => return Ok(()),
-        };
-        let data = self.flows[side].add(offset, data, Arrival { packet: number, nanos: at.time });
-        self.walk.begun = self.cutters[1 - side].cut_frame().map(|cut| cut.0);
-        let (walk, all_frames, mut taken) = (&mut self.walk, &mut self.all_frames, Ok(()));
-        self.cutters[side].take(&data, at.time, |cut| {
-            if taken.is_ok() {
-                taken = walk.take(asking, side, cut, (number, at));
-                all_frames.iter_mut().for_each(|frames| frames.take(side_of(side), cut, at));
-            }
-        });
-        taken
+    /// Takes the frames that a record of it completed.
+    pub fn take(&mut self, asking: &mut Asking, came: &Came, frames: &frame_log::Frames<'_>) -> Result<(), Failure> {
+        let Came { record, at, side, .. } = *came;
+        self.walk.begun = frames.begun;
+        frames.each(|cut| {
+            self.all_frames.iter_mut().for_each(|frames| frames.take(side_of(side), cut, at));
+            self.walk.take(asking, side, cut, (record, at))
+        })
     }
 
     /// Packs streams that go on.
@@ -132,13 +101,13 @@ impl Connection {
         self.walk.table.park();
     }
 
-    /// Whether no record of it with payload comes behind this one.
-    pub fn is_last(&self, record: u64) -> bool {
-        self.walk.known.last_record == record
+    /// Whether no more frames of it come.
+    pub fn is_over(&self) -> bool {
+        self.walk.number == self.walk.known.frames
     }
 
     /// All that is said of it, and what its requests are told from.
-    pub fn end(mut self, said: &mut ConnectionSaid) -> Result<(Packed, Seen), Failure> {
+    pub fn end(mut self, said: &mut ConnectionSaid) -> Result<Rc<(Packed, Seen)>, Failure> {
         if u64::from(self.walk.number) != self.frames {
             let (number, frames, here) = (said.number, self.frames, self.walk.number);
             let why = format!("connection {number} has {frames} frames by the report, and {here} here");
@@ -149,24 +118,22 @@ impl Connection {
         }
         self.walk.leaks.iter_mut().flatten().for_each(|leaks| leaks.end());
         self.cut_frames();
-        let Connection { cutters, walk, all_frames, .. } = self;
-        said.all_frames = all_frames;
-        let cuts = [0, 1].map(|side| cutters[side].cut_frame());
-        Ok(ended(walk, cuts, said))
+        said.all_frames = self.all_frames;
+        Ok(ended(self.walk, said))
     }
 
     /// Of a stream that is over the packets of a frame whose rest did not come.
     fn cut_frames(&mut self) {
-        if self.walk.known.back.is_some() {
+        let Walk { table, about, signals, known, .. } = &mut self.walk;
+        if known.back.is_some() {
             return;
         }
-        for (side, cutter) in self.cutters.iter().enumerate() {
-            if let Some((number, times)) = cutter.cut_frame() {
-                let Walk { table, about, signals, .. } = &mut self.walk;
-                table.touch(number, |stream| {
+        for (side, cut) in known.cuts.iter().enumerate() {
+            if let Some((number, times)) = cut {
+                table.touch(*number, |stream| {
                     let end = end_of(stream, side, (&signals.refusing, signals.error()), &about.tcp);
                     let until = end.at.map_or(stream.opened.time, |at| at.time);
-                    let holding = about.holding(side, number);
+                    let holding = about.holding(side, *number);
                     let one = &mut stream.sides[side];
                     one.life.until = until.max(one.life.at);
                     one.cut(&holding, times);
@@ -237,15 +204,15 @@ fn leaks_of(stalls: &[StallSaid]) -> [Option<Box<Leaks>>; 2] {
     })
 }
 
-type CutFrames<'a> = [Option<(u32, &'a [Nanos])>; 2];
+type CutFrames = [Option<(u32, Box<[Nanos]>)>; 2];
 
-fn ended(walk: Walk, cuts: CutFrames<'_>, said: &mut ConnectionSaid) -> (Packed, Seen) {
+fn ended(walk: Walk, said: &mut ConnectionSaid) -> Rc<(Packed, Seen)> {
     let Walk { mut about, known, table, initials, windows, settings, blocks, signals, findings, leaks, .. } = walk;
     let Walk { unanswered, bursts, unshown, mut uses_window, stop, charts, .. } = walk;
     let is_kept = known.back.is_some();
     let packed = table.end(|stream| {
         stream.sides.iter_mut().zip(&initials).for_each(|(one, initial)| one.window.look(initial));
-        finish(stream, &about, (&signals.refusing, signals.error()), is_kept.then_some(&cuts));
+        finish(stream, &about, (&signals.refusing, signals.error()), is_kept.then_some(&known.cuts));
         stream.note_content(&mut uses_window);
     });
     about.courses.iter_mut().for_each(|course| course.forget(Nanos::MAX));
@@ -283,7 +250,7 @@ fn ended(walk: Walk, cuts: CutFrames<'_>, said: &mut ConnectionSaid) -> (Packed,
         changes,
         about,
     };
-    (packed, seen)
+    Rc::new((packed, seen))
 }
 
 fn stalls_and_leaks(said: &mut ConnectionSaid, mut stalls: Vec<StallSaid>, leaks: [Option<Box<Leaks>>; 2]) {
@@ -300,14 +267,14 @@ fn stalls_and_leaks(said: &mut ConnectionSaid, mut stalls: Vec<StallSaid>, leaks
 }
 
 /// Divides what is left of the life of a stream; all of it, where times go back.
-fn finish(stream: &mut Stream, about: &About, goaways: Goaways<'_>, cuts: Option<&CutFrames<'_>>) {
+fn finish(stream: &mut Stream, about: &About, goaways: Goaways<'_>, cuts: Option<&CutFrames>) {
     for side in 0..2 {
         let end = end_of(stream, side, goaways, &about.tcp);
         let until = end.at.map_or(stream.opened.time, |at| at.time);
         let (opened, holding) = (stream.opened.time, about.holding(side, stream.number));
         match cuts {
             Some(cuts) => {
-                let cut = cuts[side].filter(|cut| cut.0 == stream.number).map(|cut| cut.1);
+                let cut = cuts[side].as_ref().filter(|cut| cut.0 == stream.number).map(|cut| &cut.1[..]);
                 stream.sides[side].finish_kept(&holding, opened, until, cut);
             }
             None => stream.sides[side].finish(&holding, until, false),
@@ -319,6 +286,8 @@ fn finish(stream: &mut Stream, about: &About, goaways: Goaways<'_>, cuts: Option
 fn first_answer(known: &Known, round_trip: &RoundTrip, side: usize) -> Option<String> {
     let (took, way) = (known.quickest[side].first?, round_trip.nanos()?);
     let is_own = round_trip.source == Some(Source::Tcp) && took >= LONG_ANSWER && took >= way.saturating_mul(LONG);
-    let (side, took, way) = (side_of(side), time_of(took), time_of(way));
-    is_own.then(|| format!("the {side}'s first answer took {took}: its own time, since a round trip takes {way}"))
+    is_own.then(|| {
+        let (side, took, way) = (side_of(side), time_of(took), time_of(way));
+        format!("the {side}'s first answer took {took}: its own time, since a round trip takes {way}")
+    })
 }

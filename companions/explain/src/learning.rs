@@ -1,16 +1,17 @@
-//! The first walk, while the import writes: of each connection its quickest reactions, its gaps, its last record, where its
-//! times go back, and how many frames it has.
+//! The first walk, while the import writes: of each connection its frames, which the second walk reads, its quickest
+//! reactions, its gaps, and where its times go back.
 
 use std::ffi::OsStr;
+use std::io;
 use std::os::unix::ffi::OsStrExt;
 
 use captures::{flags, placed, Arrival, Flow};
-use import::{help_for, Addresses, Listener, Summary};
+use import::{help_for, Addresses, Listener, Sender, Summary};
 use programs::{temporary_failure, Failure};
 
-use crate::answer::{At, Files};
-use crate::cutter::{Cutter, Head};
-use crate::made::Notes;
+use crate::answer::{At, Files, Nanos};
+use crate::cutter::Cutter;
+use crate::frame_log::{wants, Came, FrameLog, Payload};
 use crate::names::text_of;
 use crate::reactions::{Quickest, Reactions};
 use crate::spoken::Spoken;
@@ -18,11 +19,10 @@ use crate::spoken::Spoken;
 /// What is known of a connection once the capture is made.
 #[derive(Debug)]
 pub struct Known {
-    /// The record that opened it, with its packet and time; its last one, and the last one with payload.
+    /// The record that opened it, with its packet and time; and its last one.
     pub record: u64,
     pub opened: At,
     pub last: At,
-    pub last_record: u64,
     /// The first record whose time lies before that of the connection's record before it, with its packet.
     pub back: Option<(u64, u64)>,
     /// What helps there.
@@ -35,6 +35,8 @@ pub struct Known {
     pub gaps: [Option<Arrival>; 2],
     pub arrivals: [u64; 2],
     pub frames: u32,
+    /// Of each side the stream of a frame whose rest did not come, and when its packets came.
+    pub cuts: [Option<(u32, Box<[Nanos]>)>; 2],
     /// The quickest reactions of each side to what the other one sends.
     pub quickest: [Quickest; 2],
     /// How many SETTINGS of each side were acknowledged, and the frames of the first that were not.
@@ -48,13 +50,12 @@ pub struct Known {
 pub struct Learned {
     record: u64,
     opened: At,
-    last_record: u64,
     last: At,
     back: Option<(u64, u64)>,
     /// By how much its times go back, at most.
     late: u64,
     initials: [Option<u32>; 2],
-    /// Bytes of the server came before its initial sequence number was known.
+    /// Bytes of the server came before its initial sequence number was known: all that came from then on waits.
     is_early: bool,
     sides: [Side; 2],
     frames: u32,
@@ -69,11 +70,6 @@ struct Side {
     spoken: (Spoken, u64),
 }
 
-/// How much of a payload is wanted.
-fn wants(head: &Head) -> usize {
-    Reactions::wants(head.kind, head.length)
-}
-
 impl Learned {
     pub fn new(record: u64, opened: At, sequence: u32) -> Learned {
         let side = |is_client| Side {
@@ -85,7 +81,6 @@ impl Learned {
         Learned {
             record,
             opened,
-            last_record: record,
             last: opened,
             back: None,
             late: 0,
@@ -97,11 +92,9 @@ impl Learned {
         }
     }
 
-    /// One that begins anew, with what is known of it now, where it has to be read once more.
-    pub fn anew(&self) -> Option<Box<Learned>> {
-        let Learned { record, opened, last, back, late, initials, .. } = *self;
-        let again = Learned::new(record, opened, initials[0].unwrap_or(0));
-        (self.is_early && initials[1].is_some()).then(|| Box::new(Learned { last, back, late, initials, ..again }))
+    /// Whether payloads of it wait in the log.
+    pub fn is_early(&self) -> bool {
+        self.is_early
     }
 
     /// A record of a side came.
@@ -116,37 +109,46 @@ impl Learned {
         }
     }
 
-    /// Takes the payload of a record.
-    pub fn take(&mut self, number: u64, at: At, side: usize, (sequence, bits): (u32, u8), payload: &[u8]) {
-        if payload.is_empty() || self.sides[import::CLIENT].cutter.is_other() {
-            return;
+    /// Takes the payload of a record; the frames that it completes go into the log.
+    fn take(&mut self, came: &Came, payload: &Payload<'_>, log: &mut FrameLog) -> io::Result<()> {
+        if payload.octets.is_empty() || self.sides[import::CLIENT].cutter.is_other() {
+            return Ok(());
         }
-        self.last_record = number;
-        match self.initials[side] {
-            None => self.is_early = true,
-            Some(initial) => {
-                if let Some((offset, data)) = placed(initial, sequence, bits, payload) {
-                    self.bytes(number, at, side, offset, data);
-                }
-            }
+        self.is_early |= self.initials[came.side].is_none();
+        if self.is_early {
+            return log.put_aside(came, payload);
+        }
+        self.place(came, payload, log)
+    }
+
+    /// Takes one that waited, as far as it can be placed now.
+    pub fn place(&mut self, came: &Came, payload: &Payload<'_>, log: &mut FrameLog) -> io::Result<()> {
+        let Payload { sequence, flags, octets } = *payload;
+        match self.initials[came.side].and_then(|initial| placed(initial, sequence, flags, octets)) {
+            Some((offset, data)) if !self.sides[import::CLIENT].cutter.is_other() => self.bytes(came, offset, data, log),
+            _ => Ok(()),
         }
     }
 
-    fn bytes(&mut self, number: u64, at: At, side: usize, offset: u32, data: &[u8]) {
+    fn bytes(&mut self, came: &Came, offset: u32, data: &[u8], log: &mut FrameLog) -> io::Result<()> {
         let Learned { sides, frames, reactions, .. } = self;
+        let Came { record, at, side, .. } = *came;
+        let begun = sides[1 - side].cutter.cut_frame().map(|cut| cut.0);
         let one = &mut sides[side];
-        let data = one.flow.add(offset, data, Arrival { packet: number, nanos: at.time });
+        let data = one.flow.add(offset, data, Arrival { packet: record, nanos: at.time });
         if data.is_empty() {
-            return;
+            return Ok(());
         }
-        one.arrival = number;
+        one.arrival = record;
         if one.spoken.0 == Spoken::Nothing {
             one.spoken = (Spoken::by(&data), at.packet);
         }
         one.cutter.take(&data, at.time, |cut| {
             *frames += 1;
             reactions.take(side, *frames, cut);
+            log.push(cut);
         });
+        log.end(came, begun)
     }
 
     /// What is known at the end of the capture.
@@ -155,7 +157,6 @@ impl Learned {
         Known {
             record: self.record,
             opened: self.opened,
-            last_record: self.last_record,
             last: self.last,
             back: self.back,
             help: help_for(self.late),
@@ -164,6 +165,10 @@ impl Learned {
             gaps: [0, 1].map(|side| self.sides[side].flow.behind_hole()),
             arrivals: [0, 1].map(|side| self.sides[side].arrival),
             frames: self.frames,
+            cuts: [0, 1].map(|side| {
+                let cut = self.sides[side].cutter.cut_frame();
+                cut.map(|(stream, times)| (stream, times.into()))
+            }),
             quickest: self.reactions.quickest,
             acknowledged: self.reactions.acknowledged,
             unanswered: self.reactions.unanswered(),
@@ -180,7 +185,7 @@ pub struct Learning {
     pub order: Vec<usize>,
     pub files: Files,
     pub addresses: Addresses,
-    pub notes: Notes,
+    pub log: FrameLog,
     /// The files that end within a packet, each with the number of that one in it.
     pub cuts: Vec<(usize, u64)>,
     failure: Option<Failure>,
@@ -193,7 +198,7 @@ impl Learning {
             order: Vec::new(),
             files: Files::default(),
             addresses: Addresses::default(),
-            notes: Notes::new()?,
+            log: FrameLog::new()?,
             cuts: Vec::new(),
             failure: None,
         })
@@ -220,18 +225,20 @@ impl Listener for Learning {
 
     fn record(&mut self, record: &import::Record<'_>) {
         let at = At { packet: record.arrival.packet, time: record.arrival.nanos, frame: 0 };
-        let (segment, sender) = (&record.segment, record.sender.map(|sender| (sender.connection, sender.side)));
-        let payload = segment.payload();
-        if let (Err(error), None) = (self.notes.add(sender.filter(|_| !payload.is_empty()), at.packet), &self.failure) {
-            self.failure = Some(temporary_failure(&error));
+        let Sender { connection, side } = match record.sender {
+            Some(sender) => sender,
+            None => return,
+        };
+        if record.is_opening {
+            self.opened(connection, record, at);
         }
-        if let Some((connection, side)) = sender {
-            if record.is_opening {
-                self.opened(connection, record, at);
-            }
-            if let Some(Some(learned)) = self.connections.get_mut(connection) {
-                learned.met(record.number, at, side, (segment.sequence, segment.flags));
-                learned.take(record.number, at, side, (segment.sequence, segment.flags), payload);
+        if let Some(Some(learned)) = self.connections.get_mut(connection) {
+            let import::Written { sequence, flags, .. } = record.segment;
+            learned.met(record.number, at, side, (sequence, flags));
+            let came = Came { record: record.number, at, connection, side };
+            let payload = Payload { sequence, flags, octets: record.segment.payload() };
+            if let (Err(error), None) = (learned.take(&came, &payload, &mut self.log), &self.failure) {
+                self.failure = Some(temporary_failure(&error));
             }
         }
     }
@@ -251,7 +258,7 @@ impl Listener for Learning {
         self.files = Files::default();
         self.addresses = Addresses::default();
         self.cuts.clear();
-        self.notes.begin_anew().map_err(|error| temporary_failure(&error))
+        self.log.begin_anew().map_err(|error| temporary_failure(&error))
     }
 
     fn take_failure(&mut self) -> Option<Failure> {

@@ -25,6 +25,7 @@ mod course;
 mod doubts;
 mod files;
 mod findings;
+mod frame_log;
 pub mod frames;
 mod hung;
 pub mod intervals;
@@ -34,7 +35,6 @@ mod life;
 #[cfg(test)]
 mod life_by_nanosecond;
 mod listening;
-mod made;
 mod marks;
 mod names;
 mod packed;

@@ -139,7 +139,9 @@ impl Life {
         } else {
             let seen = end.min(begin.max(course.unseen));
             for (from, to, marks) in course.parts(begin, seen, is_within) {
-                self.by_marks(marks, from, to, is_within);
+                if from < to {
+                    self.by_marks(marks, from, to, is_within);
+                }
             }
             self.put(seen, end, in_pause(seen, Share::Unseen));
         }
@@ -148,15 +150,18 @@ impl Life {
         }
     }
 
-    /// A stretch by marks: its spans, as far as they are told, and the rest as sums.
+    /// A stretch of some length by marks: its spans, as far as they are told, and the rest as sums.
     fn by_marks(&mut self, marks: &Marks, begin: Nanos, end: Nanos, is_within: bool) {
         let long = if is_within { Share::Tcp } else { Share::Idle };
         let mut told_to = begin;
-        if self.is_told() && begin < end {
+        if self.is_told() {
             told_to = marks.spans(begin, end, is_within, |from, to, share| {
                 self.put(from, to, if share == Share::Idle { long } else { share });
                 self.is_told()
             });
+        }
+        if told_to == end {
+            return;
         }
         let mut found = [0; 8];
         marks.measure(told_to, end, &mut found);

@@ -103,9 +103,17 @@ impl Marks {
         }
     }
 
-    /// How many stretches begin up to a moment.
+    /// How many stretches begin up to a moment, which mostly is one of the last.
     fn begun(&self, time: Nanos) -> usize {
-        self.marked.partition_point(|one| one.begin <= time)
+        let (mut step, mut behind) = (1, self.marked.len());
+        while let Some(before) = behind.checked_sub(step) {
+            if self.marked[before].begin <= time {
+                return before + 1 + self.marked[before + 1..behind].partition_point(|one| one.begin <= time);
+            }
+            behind = before;
+            step *= 2;
+        }
+        self.marked[..behind].partition_point(|one| one.begin <= time)
     }
 
     /// Adds what a stretch in which nothing of a stream was sent is made of.

@@ -74,11 +74,12 @@ pub fn unpack(bytes: &[u8], round_trip: Nanos) -> Stream {
         at: unpacker.at().unwrap_or(NOWHERE),
         code: unpacker.small(),
     });
-    let sides = [(); 2].map(|()| unpacker.direction(round_trip));
+    let sides = [unpacker.direction(round_trip), unpacker.direction(round_trip)];
     Stream { number, order, promised_on, opened, sides, request, answer, reset }
 }
 
 impl Packer<'_> {
+    #[inline]
     fn number(&mut self, number: u64) {
         let mut rest = number;
         while rest >= 0x80 {
@@ -187,6 +188,7 @@ impl Packer<'_> {
 }
 
 impl Unpacker<'_> {
+    #[inline]
     fn byte(&mut self) -> u8 {
         match self.bytes.split_first() {
             Some((byte, rest)) => {
@@ -197,11 +199,19 @@ impl Unpacker<'_> {
         }
     }
 
+    #[inline]
     fn number(&mut self) -> u64 {
-        let (mut number, mut shift) = (0_u64, 0_u32);
+        match self.byte() {
+            only @ 0..=0x7F => u64::from(only),
+            first => self.long_number(first),
+        }
+    }
+
+    fn long_number(&mut self, first: u8) -> u64 {
+        let (mut number, mut shift) = (u64::from(first & 0x7F), 7);
         loop {
             let byte = self.byte();
-            number |= u64::from(byte & 0x7F).checked_shl(shift).unwrap_or(0);
+            number |= u64::from(byte & 0x7F) << shift;
             shift += 7;
             if byte < 0x80 || shift > 63 {
                 return number;

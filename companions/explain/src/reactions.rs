@@ -180,16 +180,6 @@ impl Reactions {
         frames
     }
 
-    /// How much of the payload of a frame is wanted.
-    pub fn wants(kind: u8, length: u32) -> usize {
-        match kind {
-            kind::PING => PING,
-            kind::SETTINGS => length as usize,
-            kind::WINDOW_UPDATE => 4,
-            _ => 0,
-        }
-    }
-
     pub fn take(&mut self, side: usize, frame: u32, cut: &Cut<'_>) {
         let (began, time) = match (cut.times.first(), cut.times.last()) {
             (Some(first), Some(last)) => (*first, *last),

@@ -20,8 +20,8 @@ pub struct Requests {
 }
 
 impl Requests {
-    pub fn of(packed: Packed, seen: Seen) -> Requests {
-        Requests { all: Vec::new(), packed: Some(Rc::new((packed, seen))), texts: None }
+    pub fn of(packed: Rc<(Packed, Seen)>) -> Requests {
+        Requests { all: Vec::new(), packed: Some(packed), texts: None }
     }
 
     /// All texts are known.
@@ -76,6 +76,8 @@ pub struct Packed {
     room: Vec<u8>,
 }
 
+/// So many bytes most streams take.
+const USUAL: usize = 128;
 /// Of a stream that is not packed yet.
 const NOWHERE: (u64, u32) = (u64::MAX, 0);
 
@@ -88,6 +90,7 @@ impl Packed {
     pub fn put(&mut self, stream: &Stream) {
         let mut room = std::mem::take(&mut self.room);
         room.clear();
+        room.reserve(USUAL);
         pack(stream, &mut room);
         let index = stream.order as usize;
         if self.places.len() <= index {

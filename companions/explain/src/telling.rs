@@ -3,7 +3,7 @@
 use std::rc::Rc;
 
 use import::{Became, Courses};
-use programs::Failure;
+use programs::{temporary_failure, Failure, Progress};
 use reports::Form;
 
 use crate::answer::{Answer, At, ChartsSaid, ConnectionSaid, Ended, How, Outcome, Requests, RoundTrip};
@@ -12,14 +12,16 @@ use crate::blocks::Names;
 use crate::building::{Asked, Made};
 use crate::charts::Choice;
 use crate::connection::Connection;
+use crate::frame_log::{Came, Entry, Found, FrameReader, Frames};
 use crate::learning::Known;
-use crate::made::{each_record, Record};
 use crate::names::Interner;
 use crate::spoken::{note_of, reason_of};
 use crate::table::Numbers;
 use crate::tcp::last_of;
 use crate::walk::Asking;
 
+/// So often it is looked how far the work is.
+const MOST_BETWEEN_LOOKS: u64 = 0x3FF;
 /// So many streams that go on are not packed, of all connections together.
 const MOST_LIVE: usize = 4096;
 /// What helps where times go back though packets were put in order.
@@ -32,13 +34,13 @@ struct Walked {
 }
 
 enum State {
-    /// None of its records came.
+    /// None of its frames came.
     Ahead(Box<Known>, Box<Audit>),
     Begun(Box<Connection>),
     Over,
 }
 
-/// All connections at once, in the order of records.
+/// All connections at once, in the order of the records that complete their frames.
 struct Walk<'a> {
     asking: Asking,
     courses: &'a mut Courses,
@@ -75,22 +77,38 @@ pub fn tell(asked: &Asked<'_>, made: &mut Made, audits: Vec<Audit>, answer: &mut
         numbers: Numbers::new(),
         live: Rc::default(),
     };
-    let Made { capture, notes, courses, .. } = made;
-    let mut walk = Walk { asking, courses, walked, answer, most_live: MOST_LIVE, next: 0 };
-    each_record(capture, notes, |record| walk.take(record))?;
-    walk.end()
+    let Made { log, courses, begun, .. } = made;
+    let walk = Walk { asking, courses, walked, answer, most_live: MOST_LIVE, next: 0 };
+    let reader = log.reader().map_err(|error| temporary_failure(&error))?;
+    walk.over(reader, Progress::since(asked.program, *begun))
 }
 
 impl Walk<'_> {
-    fn take(&mut self, record: &Record<'_>) -> Result<(), Failure> {
-        let walked = match self.walked.get_mut(record.connection) {
+    /// Takes all frames.
+    fn over(mut self, mut reader: FrameReader, mut progress: Progress) -> Result<(), Failure> {
+        let mut count = 0_u64;
+        loop {
+            if count & MOST_BETWEEN_LOOKS == 0 {
+                progress.tell(|| format!("{} % explained", reader.percent()));
+            }
+            count += 1;
+            match reader.next().map_err(|error| temporary_failure(&error))? {
+                Some(Entry { came, found: Found::Frames(frames) }) => self.take(&came, &frames)?,
+                Some(Entry { found: Found::Unplaced(_), .. }) => {}
+                None => return self.end(),
+            }
+        }
+    }
+
+    fn take(&mut self, came: &Came, frames: &Frames<'_>) -> Result<(), Failure> {
+        let walked = match self.walked.get_mut(came.connection) {
             Some(Some(walked)) => walked,
             _ => return Ok(()),
         };
-        let connection = begun(&mut walked.state, &mut self.courses.connections[record.connection], &self.asking)?;
-        connection.take(&mut self.asking, record)?;
-        if connection.is_last(record.number) {
-            return self.end_one(record.connection);
+        let connection = begun(&mut walked.state, &mut self.courses.connections[came.connection], &self.asking)?;
+        connection.take(&mut self.asking, came, frames)?;
+        if connection.is_over() {
+            return self.end_one(came.connection);
         }
         if self.asking.live.get() > self.most_live {
             self.park();
@@ -105,8 +123,8 @@ impl Walk<'_> {
         };
         begun(&mut walked.state, &mut self.courses.connections[number], &self.asking)?;
         if let State::Begun(connection) = walked.state {
-            let (packed, seen) = connection.end(&mut self.answer.connections[walked.index])?;
-            self.answer.connections[walked.index].requests = Requests::of(packed, seen);
+            let said = &mut self.answer.connections[walked.index];
+            said.requests = Requests::of(connection.end(said)?);
         }
         Ok(())
     }
@@ -133,14 +151,14 @@ impl Walk<'_> {
     }
 }
 
-/// The connection, which begins with its first record.
+/// The connection, which begins with its first frames.
 fn begun<'a>(
     state: &'a mut State,
     course: &mut import::Course,
     asking: &Asking,
 ) -> Result<&'a mut Connection, Failure> {
     *state = match std::mem::replace(state, State::Over) {
-        State::Ahead(known, audit) => State::Begun(Box::new(Connection::new(*known, *audit, course, asking)?)),
+        State::Ahead(known, audit) => State::Begun(Box::new(Connection::new(known, *audit, course, asking)?)),
         begun => begun,
     };
     match state {

@@ -50,7 +50,7 @@ pub struct Asking {
 /// What the frames of a connection told so far.
 pub struct Walk {
     pub about: About,
-    pub known: Known,
+    pub known: Box<Known>,
     /// The number of the last frame, and that at which the audit stopped.
     pub number: u32,
     pub stopped_at: Option<u32>,
@@ -257,8 +257,9 @@ impl Walk {
                     one.window.open(&initials[side]);
                 }
                 one.unshown = Walk::unshown_of(about, side).map(|nanos| Box::new(Unshown::new(nanos)));
-                for (time, amount) in early_grants.remove(&(side, number)).unwrap_or_default() {
-                    one.granted(time, amount, known.back.is_none());
+                if !early_grants.is_empty() {
+                    let grants = early_grants.remove(&(side, number)).unwrap_or_default();
+                    grants.iter().for_each(|(time, amount)| one.granted(*time, *amount, known.back.is_none()));
                 }
                 one.kept = known.back.map(|_| Box::new(Kept::default()));
                 one.begin_beside(&totals[side]);

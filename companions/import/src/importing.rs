@@ -3,20 +3,20 @@
 use std::collections::HashMap;
 use std::ffi::{OsStr, OsString};
 use std::fs::File;
+use std::time::Instant;
 
 use captures::{
     pcapng, Arrival, Decoder, Ends, Error, Fragment, Item, Packet, PassedOver, Reader, Source, RAW, STANDARD_INPUT,
 };
 use joined::{How, Joined, Made, SERVER};
-use programs::{printable, say, temporary_failure, Failure};
-use reports::Capture;
+use programs::{printable, say, temporary_failure, Failure, Progress};
+use reports::{grouped, Capture};
 use tls::Shared;
 
 use crate::course::Courses;
 use crate::joining::{Joining, Waited};
 use crate::others::Others;
 use crate::outcomes::{Back, Fate, JoinedConnection, Older, Summary};
-use crate::progress::Progress;
 use crate::reorder::{Held, Reorder};
 use crate::sink::{Problem, Sink};
 use crate::table::Table;
@@ -98,7 +98,7 @@ fn read_through(
         courses
     });
     let reorder = asked.is_reordered.then(Reorder::default);
-    let mut importer = Importer::new(shared, sink, courses, reorder, Progress::new(asked.program));
+    let mut importer = Importer::new(shared, sink, courses, reorder, Progress::since(asked.program, Instant::now()));
     importer.joining = asked.is_joined.then(Joining::default);
     for path in files {
         let has_bytes_behind = importer.file(path).map_err(|problem| problem.failure(Some(path)))?;
@@ -216,7 +216,7 @@ impl<'a, 'b> Importer<'a, 'b> {
     fn read(&mut self, packet: &Packet<'_>) -> Result<(), Early> {
         self.packets += 1;
         if self.packets & MOST_BETWEEN_LOOKS == 0 {
-            self.progress.tell(self.packets);
+            self.progress.tell(|| format!("{} packets", grouped(self.packets)));
             self.look_for_problems()?;
         }
         match &mut self.reorder {

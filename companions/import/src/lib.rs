@@ -37,7 +37,6 @@ mod others;
 mod outcomes;
 mod plaintext;
 mod preamble;
-mod progress;
 mod reorder;
 mod room;
 mod sent;

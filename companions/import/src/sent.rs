@@ -10,6 +10,10 @@ use crate::course::Uncaptured;
 /// A packet that was captured twice stands so close to its double.
 const MOST_BETWEEN: usize = 32;
 const CLOSE: i64 = 1_000_000;
+/// Odd, and without a pattern, so that each bit of a number moves many of its product.
+const FACTOR: u64 = 0x9E37_79B9_7F4A_7C15;
+const TURN: u32 = 29;
+const STRIDE: usize = 32;
 
 /// What a segment brings.
 #[derive(Debug, PartialEq, Eq)]
@@ -47,15 +51,33 @@ pub struct Sent {
 struct Print {
     sequence: u32,
     length: u32,
-    sum: u32,
+    sum: u64,
     identification: u16,
 }
 
 impl Print {
     fn of(segment: &Segment<'_>, payload: &[u8]) -> Print {
         let Segment { sequence, identification, .. } = *segment;
-        Print { sequence, length: payload.len() as u32, sum: crc32fast::hash(payload), identification }
+        Print { sequence, length: payload.len() as u32, sum: sum_of(payload), identification }
     }
+}
+
+/// Bytes in 64 bits: eight of them at a time, in four sums side by side. Bytes that differ in one sum alone differ in the
+/// result.
+fn sum_of(octets: &[u8]) -> u64 {
+    let mut sums = [0, 1, 2, octets.len() as u64];
+    let mut take = |all: &[u8]| {
+        for (sum, eight) in sums.iter_mut().zip(all.chunks_exact(8)) {
+            let number = eight.try_into().map_or(0, u64::from_le_bytes);
+            *sum = (*sum ^ number).wrapping_mul(FACTOR).rotate_left(TURN);
+        }
+    };
+    let mut all = octets.chunks_exact(STRIDE);
+    all.by_ref().for_each(&mut take);
+    let mut last = [0; STRIDE];
+    last[..all.remainder().len()].copy_from_slice(all.remainder());
+    take(&last);
+    sums.into_iter().fold(0, |one, other| (one ^ other).wrapping_mul(FACTOR).rotate_left(TURN))
 }
 
 impl Sent {
@@ -161,6 +183,10 @@ impl Sent {
     /// Notes bytes from one offset to another, and answers how many of them are new.
     fn cover(&mut self, begin: u32, end: u32) -> u32 {
         let mut fresh = end.saturating_sub(begin.max(self.reached));
+        if begin <= self.reached && self.holes.is_empty() {
+            self.reached = self.reached.max(end);
+            return fresh;
+        }
         if begin > self.reached {
             self.holes.insert(self.reached, begin);
         }
@@ -187,7 +213,7 @@ impl Sent {
 
 #[cfg(test)]
 mod tests {
-    use super::{Arrival, Sent};
+    use super::{sum_of, Arrival, Sent};
 
     #[test]
     fn bytes_are_new_once() {
@@ -198,6 +224,22 @@ mod tests {
         }
         assert_eq!(sent.cover(39, 61), 11);
         assert!(sent.holes.is_empty());
+    }
+
+    #[test]
+    fn bytes_that_differ_have_other_sums() {
+        let octets: Vec<u8> = (0..100).collect();
+        let mut sums: Vec<u64> = (0..=octets.len()).map(|length| sum_of(&octets[..length])).collect();
+        sums.extend((0..=70).map(|length| sum_of(&vec![0; length])));
+        for at in 0..octets.len() {
+            let mut changed = octets.clone();
+            changed[at] ^= 0x80;
+            sums.push(sum_of(&changed));
+        }
+        let count = sums.len() - 1; // two are of no bytes
+        sums.sort_unstable();
+        sums.dedup();
+        assert_eq!(sums.len(), count);
     }
 
     #[test]

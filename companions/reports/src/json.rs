@@ -4,6 +4,8 @@ use std::io::{self, Write};
 
 /// A buffer of so many bytes goes to its output.
 const FULL: usize = 1 << 16;
+/// So many bytes of a text are looked at side by side.
+const STRIDE: usize = 32;
 
 /// JSON that is being written.
 pub struct Json<'a> {
@@ -51,18 +53,21 @@ impl<'a> Json<'a> {
         self.close(b']');
     }
 
+    #[inline]
     pub fn open(&mut self, begin: u8) {
         self.separate();
         self.buffer.push(begin);
         self.is_first = true;
     }
 
+    #[inline]
     pub fn close(&mut self, end: u8) {
         self.buffer.push(end);
         self.is_first = false;
     }
 
     /// The name of a member, which needs no escapes.
+    #[inline]
     pub fn name(&mut self, name: &'static str) -> &mut Json<'a> {
         self.separate();
         self.buffer.push(b'"');
@@ -73,6 +78,7 @@ impl<'a> Json<'a> {
     }
 
     /// A word that needs no escapes.
+    #[inline]
     pub fn word(&mut self, word: &'static str) {
         self.separate();
         self.buffer.push(b'"');
@@ -96,6 +102,7 @@ impl<'a> Json<'a> {
         self.plain(if is_true { "true" } else { "false" });
     }
 
+    #[inline]
     pub fn null(&mut self) {
         self.plain("null");
     }
@@ -120,11 +127,13 @@ impl<'a> Json<'a> {
         self.some(word, Json::word);
     }
 
+    #[inline]
     fn plain(&mut self, text: &str) {
         self.separate();
         self.buffer.extend_from_slice(text.as_bytes());
     }
 
+    #[inline]
     fn separate(&mut self) {
         if !self.is_first {
             self.buffer.push(b',');
@@ -133,11 +142,19 @@ impl<'a> Json<'a> {
     }
 }
 
+/// Whether a byte needs no escape.
+fn is_plain(octet: u8) -> bool {
+    matches!(octet, b' '..=b'~') && octet != b'"' && octet != b'\\'
+}
+
 /// The text of a string: ASCII, with escapes for all else (RFC 8259, 7).
 fn escape(text: &str, to: &mut Vec<u8>) {
+    if text.as_bytes().chunks(STRIDE).all(|some| some.iter().fold(true, |are, one| are & is_plain(*one))) {
+        return to.extend_from_slice(text.as_bytes());
+    }
     let mut plain = 0;
     for (place, letter) in text.char_indices() {
-        if matches!(letter, ' '..='~') && letter != '"' && letter != '\\' {
+        if u8::try_from(letter).map_or(false, is_plain) {
             continue;
         }
         to.extend_from_slice(text[plain..place].as_bytes());

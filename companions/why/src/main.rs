@@ -51,7 +51,11 @@ fn of_one(asked: &Asked, files: &[OsString]) -> Outcome {
     };
     let answer = answered(asked, files)?;
     let whole = Whole::new(&answer);
-    ended(asked, &[&whole], vec![judged(asked, &whole)], |to| why::write(&whole, form, to))
+    let done = ended(asked, &[&whole], vec![judged(asked, &whole)], |to| why::write(&whole, form, to));
+    // The process ends, and takes all of it back at once.
+    std::mem::forget(whole);
+    std::mem::forget(answer);
+    done
 }
 
 /// The charts of a report that is there.

@@ -14,15 +14,17 @@ pub struct Progress {
 }
 
 impl Progress {
-    pub fn new(program: &str) -> Progress {
+    /// Of work that began at a time.
+    pub fn since(program: &str, begun: Instant) -> Progress {
         let is_shown = atty::is(atty::Stream::Stderr);
-        Progress { program: program.to_string(), is_shown, next: Instant::now() + BEFORE_FIRST, width: 0 }
+        Progress { program: program.to_string(), is_shown, next: begun + BEFORE_FIRST, width: 0 }
     }
 
-    pub fn tell(&mut self, packets: u64) {
+    /// Says what is done, where it is time to.
+    pub fn tell(&mut self, done: impl FnOnce() -> String) {
         if self.is_shown && Instant::now() >= self.next {
             self.next = Instant::now() + BETWEEN;
-            let text = format!("{}: {} packets", self.program, grouped(packets));
+            let text = format!("{}: {}", self.program, done());
             let _ = write!(std::io::stderr(), "\r{text:width$}", width = self.width);
             self.width = text.len();
         }
@@ -40,17 +42,4 @@ impl Drop for Progress {
     fn drop(&mut self) {
         self.end();
     }
-}
-
-/// A number with its digits in threes.
-fn grouped(number: u64) -> String {
-    let digits = number.to_string();
-    let mut text = String::new();
-    for (at, digit) in digits.chars().enumerate() {
-        if at > 0 && (digits.len() - at) % 3 == 0 {
-            text.push(',');
-        }
-        text.push(digit);
-    }
-    text
 }
