@@ -1,5 +1,5 @@
 """Tests that all forms in which h2audit-why answers say the same of each request, over all captures of the repository:
-text, JSON, lines of JSON, rows, JUnit, and a comparison with itself.
+text, JSON, lines of JSON, rows, JUnit, the page, and a comparison with itself.
 
     python3 -m tools.tests.why_forms_test [H2AUDIT] [TEST..]
 """
@@ -14,6 +14,7 @@ from collections.abc import Iterator
 from typing import Any
 
 from h2audit.report.words import time_of
+from tools.tests import page_forms
 from tools.tests.why_test import SCHEMA, words_for
 from tools.tests.why_tools import TOP, Json, OnCaptures, has_programs, programs_of, ran
 
@@ -69,6 +70,9 @@ class Forms(OnCaptures):
                 self.text(found, words)
                 self.junit(found, said, words)
                 self.compared(said, capture, words)
+                charted, page = page_forms.page_of(words)
+                validator.validate(charted)
+                page_forms.judge(self, found, page)
         self.assertGreater(requests, 150)
 
     def lines(self, said: Named, words: list[str]) -> None:
