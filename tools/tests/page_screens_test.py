@@ -37,7 +37,7 @@ SAID = """
       const { left, right, bottom } = row.getBoundingClientRect(), next = rows[at + 1]?.getBoundingClientRect();
       const texts = [...row.querySelectorAll("p, .title, .facts")].map(one => [one, one.getBoundingClientRect()]);
       const isWhole = ([one, box]) => box.left >= left && box.right <= right + 1 && box.bottom <= bottom + 1
-        && one.scrollWidth <= one.clientWidth + 1;
+        && (one.tagName !== "P" || one.scrollWidth <= one.clientWidth + 1);
       return [texts.map(([one]) => one.textContent), texts.every(isWhole), !next || next.top >= bottom - 1];
     });
 """
@@ -86,8 +86,8 @@ class FirstScreen(OnScreens):
         judged = 0
         for capture in CAPTURES:
             document, text = page_of_capture(words_for(capture))
-            self.open(text)
             if any(one["requests"] for one in document["connections"]):
+                self.open(text)
                 seen, whole = self.browser.run(ROWS)
                 self.assertGreaterEqual(seen, min(3, whole), capture.name)
                 judged += 1
@@ -259,14 +259,14 @@ class InFirefox(OnScreens):
 
     def test_opens(self) -> None:
         path = self.folder / "page.html"
-        for text in (made(*stalled(), LONG), page_of_capture([str(CAPTURES[0])])[1]):
+        for text, row in ((made(*stalled(), LONG), 2), (page_of_capture([str(CAPTURES[0])])[1], 1)):
             path.write_text(text)
             self.firefox.load(path)
             self.firefox.until(IS_READY)
             said = self.firefox.run(SAID)
             self.assertGreater(len(said), 1)
             self.assertTrue(all(is_whole and is_above for _, is_whole, is_above in said), said)
-            self.firefox.run("document.querySelector('#rows .row[data-at=\"1\"] button').click()")
+            self.firefox.run("document.querySelector(`#rows .row[data-at='${arguments[0]}'] button`).click()", row)
             self.assertTrue(self.firefox.run("return document.querySelector('#request h3').textContent"))
             self.firefox.until("return !!document.querySelector('#request figure canvas')")
             self.firefox.run("document.querySelector('#windows figure').scrollIntoView()")
