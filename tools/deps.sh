@@ -9,7 +9,7 @@ needed+=(valgrind)
 # Of the form and the types of Python.
 needed+=(black flake8 isort mypy)
 # Of the page and its tests.
-needed+=(libjs-dygraphs chromium chromium-driver python3-selenium poppler-utils)
+needed+=(libjs-dygraphs chromium chromium-driver firefox-esr python3-selenium poppler-utils)
 # Of imports and their tests.
 needed+=(python3-cryptography python3-zstandard zstd tcpdump openssl)
 # Of the programs in Rust.

@@ -3,9 +3,10 @@
 from dataclasses import dataclass
 
 from h2audit.report.charts import Json
+from h2audit.report.words import count
 
-# So many different limits of what can be seen stand at the top.
-MOST_LIMITS = 8
+# So many warnings, and different limits of what can be seen, stand at the top.
+MOST_WARNINGS, MOST_LIMITS = 100, 8
 
 
 @dataclass
@@ -31,16 +32,15 @@ class Answer:
                 seen.setdefault(text, []).append(one["number"])
         limited = [f"Connection {of[0]}" + f" and {len(of) - 1:,} more" * (len(of) > 1) + f": {text}"
                    for text, of in list(seen.items())[:MOST_LIMITS]]  # fmt: skip
-        return [sentence(text) for text in warnings + limited]
-
-    @property
-    def not_audited(self) -> list[Json]:
-        return list(self.document["not_audited"])
+        if (more := len(warnings) - MOST_WARNINGS) > 0:
+            warnings[MOST_WARNINGS:] = [f"{count(more, 'warning')} more, which h2audit-why tells"]
+        return [ended(text) for text in warnings + limited]
 
     @property
     def connections(self) -> list[Json]:
         return list(self.document["connections"])
 
 
-def sentence(text: str) -> str:
+def ended(text: str) -> str:
+    """A sentence, from its capital to its point."""
     return text[:1].upper() + text[1:] + "." * (text[-1:] not in ".!?")

@@ -14,8 +14,8 @@ from math import gcd
 from typing import NamedTuple
 
 from h2audit.page.model import Audit, Connection, Others, Window
-from h2audit.page.series import Series, series_of, thinned
-from h2audit.report.charts import Finding
+from h2audit.page.series import Kind, Series, series_of, thinned
+from h2audit.report.charts import Note
 
 MOST_BYTES = 2_900_000
 # Points of a window at most, from what a screen can show to its four extremes.
@@ -117,19 +117,19 @@ def cut(audit: Audit, windows: list[Window], series: list[Series]) -> Fitting:
     return Fitting(series, len(elsewhere), zlib.compress(json_of(audit, windows, series, elsewhere), LEVEL))
 
 
-def faults_without_chart(windows: list[Window]) -> list[tuple[Connection, Finding]]:
+def faults_without_chart(windows: list[Window]) -> list[tuple[Connection, Note]]:
     """The faults of windows that have no chart, of connections that have one; of each the first that it can show."""
     shown = set(map(id, windows))
     connections = {id(window.connection): window.connection for window in windows}.values()
-    found: list[tuple[Connection, Finding]] = []
+    found: list[tuple[Connection, Note]] = []
     for one in connections:
         others = [window for window in one.windows.values() if id(window) not in shown]
-        found += [(one, note.finding) for window in others for note in window.faults][:LINES]
+        found += [(one, note) for window in others for note in window.faults][:LINES]
     return found
 
 
 def json_of(
-    audit: Audit, windows: list[Window], series: list[Series], elsewhere: list[tuple[Connection, Finding]]
+    audit: Audit, windows: list[Window], series: list[Series], elsewhere: list[tuple[Connection, Note]]
 ) -> bytes:
     places = {id(one): place for place, one in enumerate(audit.connections)}
     used = sorted({places[id(window.connection)] for window in windows})
@@ -139,14 +139,17 @@ def json_of(
     faults = [note.finding for window in windows for note in window.faults]
     by_other = {fault.kind for fault in faults if fault.broke != fault.side}
     waits = [max(window.waits, default=0) for window in windows]
-    others = [(new[places[id(one)]], finding.frame, one.since_start(finding)) for one, finding in elsewhere]
+    others = [
+        (new[places[id(one)]], note.finding.frame, one.since_start(note.finding), one.is_doubtful(note))
+        for one, note in elsewhere
+    ]
     unit = gcd(*waits, *(other[2] for other in others), *(time for column in times for time in column)) or 1
     openings = [audit.connections[place].opening for place in used]
     said = {
         "connections": list(steps(one.number for one in openings)),
         "clients": [one.client for one in openings],
         "servers": [one.server for one in openings],
-        "kinds": [[kind, int(kind in by_other)] for kind in kinds],
+        "kinds": [[kind, int(kind in by_other), int(is_doubtful)] for kind, is_doubtful in kinds],
         # Of each window its connection, side and stream, how many points, stalls and faults follow, its longest stall.
         "places": list(steps(new[places[id(window.connection)]] for window in windows)),
         "sides": [int(window.side == "server") for window in windows],
@@ -160,8 +163,10 @@ def json_of(
         "frames": list(columns(one.frames for one in series)),
         "times": [time // unit for time in columns(times)],
         "credits": [step for one in series for step in steps(one.credits)],
-        # Faults whose own window has no chart: connection, frame and time.
-        "elsewhere": [number for place, frame, time in others for number in (place, frame, time // unit)],
+        # Faults whose own window has no chart: connection, frame, time, and whether they can be doubted.
+        "elsewhere": [
+            number for place, frame, time, doubt in others for number in (place, frame, time // unit, int(doubt))
+        ],
         "stalls": [number for one in series for number in stall_steps(one)],
         "faults": [number for one in series for number in fault_numbers(one, kinds)],
     }
@@ -195,7 +200,7 @@ def onward(times: Iterable[int]) -> Iterator[int]:
         yield latest
 
 
-def fault_numbers(series: Series, kinds: list[str]) -> Iterator[int]:
+def fault_numbers(series: Series, kinds: list[Kind]) -> Iterator[int]:
     """For each cross its point, the place of its kind, the value of its first fault, and how many it stands for."""
     for at, kind, value, number in series.faults:
         yield from (at, kinds.index(kind), value, number)

@@ -5,10 +5,11 @@ import hashlib
 from importlib import resources
 
 from h2audit.page.chart_data import Packed, packed
+from h2audit.page.heads import narrow
 from h2audit.page.library import Library
 from h2audit.page.markup import Markup, element
 from h2audit.page.model import Audit
-from h2audit.page.summary import summary
+from h2audit.page.summary import summary, top
 from h2audit.page.tables import Choice, chosen, connections, left_out, others, section, thinning
 from h2audit.page.waterfall import Waterfall, waterfall, waterfall_section
 
@@ -51,13 +52,12 @@ def page_with(
 ) -> str:
     own = '(() => {\n"use strict";\n' + "\n".join(map(asset, SCRIPTS)) + "\n})();\n"
     scripts = [library.script, own] if charts else []
-    styles = [library.style, asset("page.css")]
+    styles = [library.style, asset("page.css") + narrow()]
     return "".join(
         [
             '<!DOCTYPE html>\n<html lang="en">\n',
             head(title, policy(scripts, styles), styles),
-            body(audit, title, charts, chosen(audit, times), requests_markup(requests, times)),
-            licence(library) if charts else "",
+            body(audit, title, charts, chosen(audit, times), requests_markup(requests, times), library),
             *[element("script", Markup(script)) for script in scripts],
             "</body>\n</html>\n",
         ]
@@ -82,13 +82,15 @@ def requests_markup(requests: Waterfall | None, times: float) -> Markup:
     return waterfall_section(requests, times, asset_markup("waterfall.html")) if requests else Markup("")
 
 
-def body(audit: Audit, title: str, charts: Packed | None, choice: Choice, requests: Markup) -> Markup:
-    shown = [section(one, choice) for one in audit.connections if id(one) in choice.sections]
+def body(audit: Audit, title: str, charts: Packed | None, choice: Choice, requests: Markup, library: Library) -> Markup:
+    shown = [section(audit, one, choice) for one in audit.connections if id(one) in choice.sections]
+    filters = asset_markup("filters.html") if charts else Markup("")
+    sums = summary(audit, choice.notes)
     main = [
-        summary(audit, choice.notes),
+        top(audit),
+        # What is seen without scrolling: requests over time, where there are some.
+        *([filters, requests, sums] if requests else [sums, filters]),
         left_out(choice, charts),
-        asset_markup("filters.html") if charts else "",
-        requests,
         chart_section(audit, charts),
         connections(audit, choice),
         *shown,
@@ -98,17 +100,18 @@ def body(audit: Audit, title: str, charts: Packed | None, choice: Choice, reques
     about = element("p", f"Made by h2audit-page from {source}. The rules are those of RFC 9113, HTTP/2.")
     return Markup(
         "<body>\n"
-        + element("header", [element("h1", title), about])
+        + element("header", element("h1", title))
         + "\n"
         + element("main", main, class_="large" if choice.left_out else None)
         + "\n"
+        + element("footer", [about, licence(library)] if charts else about)
     )
 
 
 def chart_section(audit: Audit, charts: Packed | None) -> Markup:
     parts = [element("h2", "Credit of each window")]
     if charts is None:
-        windows = any(one.opening.form == "http2" for one in audit.connections)
+        windows = not all(one.unaudited for one in audit.connections)
         said = "The report has no credit lines, so there are no charts. Make it with h2audit --frames to have them."
         return element("section", [*parts, element("p", said)], id="charts") if windows else Markup("")
     parts += [
@@ -130,4 +133,4 @@ def licence(library: Library) -> Markup:
         element("summary", f"Charts by dygraphs {library.version}, MIT licence"),
         element("pre", library.licence, tabindex="0"),
     ]
-    return element("footer", element("details", said))
+    return element("details", said)

@@ -3,6 +3,8 @@
 from collections.abc import Iterable
 from html import escape
 
+from h2audit.page.heads import HEADS
+
 
 class Markup(str):
     """Text that is HTML already."""
@@ -42,12 +44,22 @@ def attribute(key: str, value: str | int | bool | None) -> str:
     return f" {name}" if value is True else f' {name}="{escape(printable(str(value)))}"'
 
 
-def table(caption: str, heads: list[str], rows: Iterable[Markup], **attributes: str) -> Markup:
-    """A table that a screen reader can name, in a box of its own that can be scrolled by keyboard."""
-    head = element("thead", element("tr", [element("th", one, scope="col") for one in heads]))
-    body = element("tbody", list(rows))
-    whole = element("table", [element("caption", caption), head, body], **attributes)
+def table(caption: str, name: str, rows: Iterable[Markup]) -> Markup:
+    """A table that a screen reader can name, in a box of its own that can be scrolled by keyboard. Its name is that of
+    its heads, and its class.
+    """
+    head = element("thead", element("tr", [element("th", one, scope="col") for one in HEADS[name]]))
+    whole = element("table", [element("caption", caption), head, element("tbody", list(rows))], class_=name)
     return element("div", whole, class_="scroll", tabindex="0", role="region", aria_label=caption)
+
+
+def shortened(caption: str, name: str, rows: list[Markup], whole: int) -> Markup:
+    """A table of the first rows, if there are any; where they are not all, the last says how many more there are."""
+    if not rows:
+        return Markup("")
+    if more := whole - len(rows):
+        rows.append(row([f"{more:,} more", *[""] * (len(HEADS[name]) - 1)]))
+    return table(caption, name, rows)
 
 
 def row(cells: Iterable[Content], **attributes: str | int | None) -> Markup:

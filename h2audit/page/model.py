@@ -7,6 +7,9 @@ from typing import BinaryIO, NamedTuple
 from h2audit.page.answer import Answer
 from h2audit.report.charts import Finding, Json, Note, document_of_report, notes_of
 
+# Frame, side, kind, stream and value of a fault.
+Told = tuple[int, str, str, int, int | None]
+
 
 class Opening(NamedTuple):
     """A connection's number, its endpoints, the packet that opened it, what became of it, and its frames."""
@@ -82,9 +85,15 @@ class Connection:
     start: int = 0
     end: int = 0
     stopped_at: int | None = None
-    # Where the capture is known: up to when each open stall lasted by its side, stream and first frame.
-    is_captured: bool = False
+    # Where the capture is known: what h2audit-why says, each fault of that by what a finding tells, and up to when each
+    # open stall lasted by its side, stream and first frame.
+    said: Json = field(default_factory=dict)
+    told: dict[Told, Json] = field(default_factory=dict)
     open_until: dict[tuple[str, int, int], int] = field(default_factory=dict)
+
+    @property
+    def is_captured(self) -> bool:
+        return bool(self.said)
 
     @property
     def has_findings(self) -> bool:
@@ -95,8 +104,27 @@ class Connection:
         return [note for note in self.notes if note.finding.is_fault]
 
     @property
+    def doubtful(self) -> int:
+        """How many of its faults can be doubted."""
+        return sum(map(self.is_doubtful, self.faults))
+
+    @property
     def stalls(self) -> list[Note]:
         return [note for note in self.notes if note.finding.is_stall_begin]
+
+    @property
+    def unaudited(self) -> str:
+        """The word for why it was not audited, as `not_audited` of the document has it; empty if it was."""
+        form = self.opening.form
+        return "" if form == "http2" else form.removeprefix("refused ")
+
+    def fault(self, note: Note) -> Json | None:
+        """What h2audit-why says of a fault: how certain it is, and what set its window."""
+        return self.told.get(told_of(note.finding))
+
+    def is_doubtful(self, note: Note) -> bool:
+        fault = self.fault(note)
+        return fault is not None and fault["certainty"] != "certain"
 
     def window(self, side: str, stream: int) -> Window:
         if (side, stream) not in self.windows:
@@ -135,6 +163,8 @@ class Audit:
     """All of a capture or a report that the page may show."""
 
     capture: Capture
+    # What was not audited: why, how much, and that in words.
+    not_audited: list[Json] = field(default_factory=list)
     cut: int | None = None
     unopened: int = 0
     unopened_segments: int = 0
@@ -148,6 +178,11 @@ class Audit:
         """All windows that are told, those with trouble first."""
         windows = [window for one in self.connections for window in one.windows.values()]
         return sorted(windows, key=lambda window: window.trouble)
+
+    @cached_property
+    def why_not(self) -> dict[str, str]:
+        """What was not audited, in words by the word for it."""
+        return {one["reason"]: one["text"] for one in self.not_audited}
 
     @property
     def has_credit(self) -> bool:
@@ -173,11 +208,15 @@ def audit_of_document(document: Json) -> Audit:
     """What h2audit-why shows of a capture or of a report."""
     answer = Answer(document) if "summary" in document else None
     files = document.get("files", ())
-    audit = Audit(Capture(**document["capture"]), answer=answer, asked=document["asked"])
+    audit = Audit(Capture(**document["capture"]), document["not_audited"], answer=answer, asked=document["asked"])
     for name, value in document.get("report", {}).items():
         setattr(audit, name, value)
     audit.connections = [connection_of(one, files) for one in document["connections"]]
     return audit
+
+
+def told_of(finding: Finding) -> Told:
+    return finding.frame, finding.side, finding.kind, finding.stream, finding.value
 
 
 def connection_of(one: Json, files: list[str]) -> Connection:
@@ -185,9 +224,11 @@ def connection_of(one: Json, files: list[str]) -> Connection:
     opening = Opening(one["number"], one["client"], one["server"], charts["record"], charts["form"], charts["frames"])
     found = Connection(
         opening, [Flow(**flow) for flow in charts["flows"]], notes_of(charts, files),
-        start=charts["begin"], end=charts["until"], stopped_at=charts["stopped_at"], is_captured="stalls" in one,
-        others=Others(**charts["other_windows"]),
+        start=charts["begin"], end=charts["until"], stopped_at=charts["stopped_at"],
+        others=Others(**charts["other_windows"]), said=one if "outcome" in one else {},
     )  # fmt: skip
+    for fault in one.get("faults", ()):
+        found.told[fault["at"]["frame"], fault["side"], fault["kind"], fault["stream"], fault["value"]] = fault
     for window in charts["windows"]:
         found.windows[window["side"], window["stream"]] = Window(found, **window)
     for note in found.notes:

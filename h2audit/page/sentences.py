@@ -1,5 +1,6 @@
 """What the page says of one finding: what happened, how long its stall took, who is to blame, and when it was."""
 
+from h2audit.page.answer import ended
 from h2audit.page.model import Connection
 from h2audit.page.words import clock, waited
 from h2audit.report.charts import Finding, Note
@@ -7,7 +8,12 @@ from h2audit.report.words import OTHER_SIDE, duration
 
 
 def sentence(one: Connection, note: Note) -> str:
-    return f"{note.finding.text}{other_end(one, note)} ({note.finding.kind}); {blame(note)}"
+    said = f"{note.finding.text}{other_end(one, note)} ({note.finding.kind}); {blame(note)}"
+    fault = one.fault(note)
+    if fault is None:
+        return said
+    said += f"; its window: {fault['set_by_text']}" * bool(fault["set_by_text"])
+    return f"Doubtful: {said}. {ended(fault['doubt'])}" if one.is_doubtful(note) else f"{said}. Certain."
 
 
 def blame(note: Note) -> str:

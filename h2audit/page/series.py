@@ -6,6 +6,9 @@ from dataclasses import dataclass
 from h2audit.page.model import Window
 from h2audit.report.charts import Note
 
+# A fault's kind, and whether it can be doubted.
+Kind = tuple[str, bool]
+
 
 @dataclass(slots=True)
 class Series:
@@ -17,7 +20,7 @@ class Series:
     # The two points of each shade, of which an open stall has no second, and how many stalls it stands for.
     stalls: list[tuple[int, int | None, int]]
     # The point of each cross, the kind and value of its first fault, and how many faults of the kind it stands for.
-    faults: list[tuple[int, str, int, int]]
+    faults: list[tuple[int, Kind, int, int]]
     # How often the credit changed.
     whole: int
 
@@ -44,8 +47,12 @@ def series_of(window: Window) -> Series:
         return min(bisect_left(window.frames, note.finding.frame), len(window.frames) - 1)
 
     stalls = [(place(stall), place(stall.other) if stall.other else None, 1) for stall in window.stalls]
-    faults = [(place(note), note.finding.kind, note.finding.value or 0, 1) for note in window.faults]
+    faults = [(place(note), kind_of(window, note), note.finding.value or 0, 1) for note in window.faults]
     return Series(window.frames, window.times, window.credits, stalls, faults, window.changes)
+
+
+def kind_of(window: Window, note: Note) -> Kind:
+    return note.finding.kind, window.connection.is_doubtful(note)
 
 
 def thinned(whole: Series, most: int, most_marks: int) -> Series:
@@ -97,14 +104,14 @@ def joined(whole: Series, most: int) -> list[tuple[int, int | None, int]]:
     return shades
 
 
-def one_in_each(whole: Series, most: int) -> list[tuple[int, str, int, int]]:
+def one_in_each(whole: Series, most: int) -> list[tuple[int, Kind, int, int]]:
     """The faults; where there are more than `most`, the first of each stretch and of each kind, for all of these."""
     if len(whole.faults) <= most:
         return whole.faults
     length = -(-len(whole.faults) // most)
-    kept: list[tuple[int, str, int, int]] = []
+    kept: list[tuple[int, Kind, int, int]] = []
     for begin in range(0, len(whole.faults), length):
-        first: dict[str, tuple[int, str, int, int]] = {}
+        first: dict[Kind, tuple[int, Kind, int, int]] = {}
         for at, kind, value, number in whole.faults[begin : begin + length]:
             at, _, value, before = first.get(kind, (at, kind, value, 0))
             first[kind] = at, kind, value, before + number

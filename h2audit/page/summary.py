@@ -1,6 +1,7 @@
 """The top of the page: one sentence, what limits it, who broke which rule, and whom to ask."""
 
-from h2audit.page.markup import Content, Markup, element, items, row, table
+from h2audit.page.answer import ended
+from h2audit.page.markup import Content, Markup, element, items, row, shortened, table
 from h2audit.page.model import Audit, Connection
 from h2audit.page.top import Asked, asked, headline, limits
 from h2audit.page.words import Breach, breaches, counts, endpoint, longest_stalls, waited, windows_named
@@ -14,34 +15,47 @@ PROVED = (
 )
 
 
+def top(audit: Audit) -> Markup:
+    """What stands before all else: one sentence, and what limits it."""
+    parts = [element("p", headline(audit), class_="headline")]
+    if said := limits(audit):
+        parts.append(element("h2", "What limits this answer", id="limits-head"))
+        box = element("div", items(said), tabindex="0", role="region", aria_labelledby="limits-head")
+        parts.append(box)
+    return element("section", parts, id="top", class_="limited" if said else None, aria_label="What was found")
+
+
 def summary(audit: Audit, notes: set[int]) -> Markup:
     """`notes` are the findings that have a row in the page."""
-    parts = [element("h2", "Summary"), element("p", headline(audit), class_="headline")]
-    if said := limits(audit):
-        parts.append(element("div", [element("h3", "What limits this answer"), items(said)], class_="note"))
-    parts += [breach_table(audit, notes), asked_table(audit), stall_table(audit, notes)]
+    parts = [element("h2", "Summary"), *breach_tables(audit, notes), asked_table(audit), stall_table(audit, notes)]
     parts.append(element("p", counts(audit), class_="counts"))
     if audit.answer:
         parts.append(element("p", PROVED, class_="counts"))
     return element("section", parts, id="summary")
 
 
-def breach_table(audit: Audit, notes: set[int]) -> Markup:
+def breach_tables(audit: Audit, notes: set[int]) -> list[Markup]:
+    """Those that are certain, or all where nothing is known of that; and those that can be doubted."""
     found = breaches(audit)
-    rows = [
-        row(
-            [
-                f"the {breach.side}, {breach.peer}",
-                breach.kind,
-                f"RFC 9113, {breach.section}" if breach.section else "",
-                breach.times,
-                breach.connections,
-                place(*breach.first, notes),
-            ]
-        )
-        for breach in found[:MOST_ROWS]
+    certain = [one for one in found if not one.is_doubtful]
+    doubtful = [one for one in found if one.is_doubtful]
+    rows = [row(breach_cells(one, notes)) for one in certain[:MOST_ROWS]]
+    doubts = [row([*breach_cells(one, notes), ended(one.doubt)]) for one in doubtful[:MOST_ROWS]]
+    return [
+        shortened("Who broke which rule", "breaches", rows, len(certain)),
+        shortened("Doubtful: who may have broken which rule", "doubtful", doubts, len(doubtful)),
     ]
-    return shortened("Who broke which rule", ["Who", "Rule", "Section", "Times", "Connections", "First"], rows, found)
+
+
+def breach_cells(breach: Breach, notes: set[int]) -> list[Content]:
+    return [
+        f"the {breach.side}, {breach.peer}",
+        breach.kind,
+        f"RFC 9113, {breach.section}" if breach.section else "",
+        breach.times,
+        breach.connections,
+        place(*breach.first, notes),
+    ]
 
 
 def asked_table(audit: Audit) -> Markup:
@@ -59,9 +73,8 @@ def asked_table(audit: Audit) -> Markup:
         )
         for one in found[:MOST_ROWS]
     ]
-    what = "Requests" if audit.answer else "Stalls"
-    heads = ["Whom to ask", "About", what, "Connections", "Longest", "In all, each instant once"]
-    return shortened("Whom to ask about time that was lost", heads, rows, found)
+    name = "asked" if audit.answer else "asked-of-stalls"
+    return shortened("Whom to ask about time that was lost", name, rows, len(found))
 
 
 def said(one: Asked, nanos: int) -> str:
@@ -73,8 +86,7 @@ def stall_table(audit: Audit, notes: set[int]) -> Markup:
     if not rows:
         return Markup("")
     note = "A stall breaks no rule: a receiver may choose any window (RFC 9113, 5.2.1)."
-    heads = ["How long", "Who waited", "Where", "From"]
-    return Markup(table("The longest stalls", heads, rows) + element("p", note))
+    return Markup(table("The longest stalls", "stalls", rows) + element("p", note))
 
 
 def stall_row(one: Connection, stalls: list[Note], notes: set[int]) -> Markup:
@@ -82,15 +94,6 @@ def stall_row(one: Connection, stalls: list[Note], notes: set[int]) -> Markup:
     side = first.finding.side
     who = f"{side}, {endpoint(one.opening, side)}"
     return row([waited(one, first), who, windows_named(stalls), place(one, first, notes)])
-
-
-def shortened(caption: str, heads: list[str], rows: list[Markup], found: list[Asked] | list[Breach]) -> Markup:
-    """A table of the first rows; where they are not all, the last says how many more there are."""
-    if not rows:
-        return Markup("")
-    if more := len(found) - len(rows):
-        rows.append(row([f"{more:,} more", *[""] * (len(heads) - 1)]))
-    return table(caption, heads, rows, class_="sums")
 
 
 def place(connection: Connection, note: Note, notes: set[int]) -> Content:

@@ -3,6 +3,7 @@
 from dataclasses import dataclass
 
 from h2audit.page.chart_data import Packed
+from h2audit.page.known import known_of, settings_table, signal_table
 from h2audit.page.markup import Content, Markup, element, items, markup, row, table
 from h2audit.page.model import Audit, Connection, Others, Window, together
 from h2audit.page.sentences import moment, sentence, zero
@@ -95,7 +96,7 @@ def connections(audit: Audit, choice: Choice) -> Markup:
                 one.opening.server,
                 one.opening.record,
                 one.opening.frames,
-                verdict(one),
+                verdict(audit, one),
             ]
         )
         for one in listed
@@ -107,8 +108,8 @@ def connections(audit: Audit, choice: Choice) -> Markup:
         rest = [one for one in audit.connections if id(one) not in shown]
         frames = sum(one.opening.frames for one in rest)
         rows.append(row([f"{count(len(rest), 'connection')} more", "", "", "", frames, trouble_in_all(rest)]))
-    heads = ["Connection", "Client", "Server", "Opened in packet", "Frames", "Verdict"]
-    return element("section", [element("h2", "Connections"), table("All connections", heads, rows)], id="connections")
+    listed_all = table("All connections", "connections", rows)
+    return element("section", [element("h2", "Connections"), listed_all], id="connections")
 
 
 def trouble_in_all(connections: list[Connection]) -> str:
@@ -121,8 +122,8 @@ def link_to(one: Connection, choice: Choice) -> Content:
     return element("a", name, href=f"#c{one.opening.number}") if id(one) in choice.sections else name
 
 
-def section(one: Connection, choice: Choice) -> Markup:
-    """One connection: who talked, what came of it, its findings and its windows."""
+def section(audit: Audit, one: Connection, choice: Choice) -> Markup:
+    """One connection: who talked, what came of it, what is known of it, its findings and its windows."""
     opening = one.opening
     number = f"c{opening.number}"
     parts: list[Markup] = [
@@ -130,9 +131,11 @@ def section(one: Connection, choice: Choice) -> Markup:
         element(
             "p",
             f"Client {opening.client}, server {opening.server}; opened in packet {opening.record}. "
-            f"Verdict: {verdict(one)}.",
+            f"Verdict: {verdict(audit, one)}.",
         ),
-        items(flow_words(one)),
+        items(flow_words(one) + known_of(one)),
+        settings_table(one),
+        signal_table(one),
     ]
     if one.has_findings:
         parts.append(element("p", zero(one)))
@@ -147,8 +150,7 @@ def finding_table(one: Connection, choice: Choice) -> Markup:
     rows = [finding_row(one, note, choice) for note in one.notes if id(note) in choice.notes]
     if rest := len(one.notes) - len(rows):
         rows.append(row(["", "", "", f"{count(rest, 'finding')} more, in the report"]))
-    heads = ["Frame", "Packet", "Time", "What happened"]
-    return table(f"Findings of connection {one.opening.number}", heads, rows, class_="findings")
+    return table(f"Findings of connection {one.opening.number}", "findings", rows)
 
 
 def packet(note: Note) -> Content:
@@ -163,25 +165,13 @@ def finding_row(one: Connection, note: Note, choice: Choice) -> Markup:
     return row(
         [link, packet(note), moment(one, finding), sentence(one, note)],
         id=row_id(one, note),
-        class_="fault" if finding.is_fault else None,
+        class_=("doubtful" if one.is_doubtful(note) else "fault") if finding.is_fault else None,
         data_connection=one.opening.number,
         data_frame=finding.frame,
         data_side=finding.side,
         data_kind=finding.kind,
         data_stream=finding.stream,
     )
-
-
-WINDOW_HEADS = [
-    "Window",
-    "Faults",
-    "Stalls",
-    "Longest stall",
-    "In all",
-    "Least credit",
-    "Greatest credit",
-    "Last credit",
-]
 
 
 def window_table(one: Connection, choice: Choice) -> Markup:
@@ -194,7 +184,7 @@ def window_table(one: Connection, choice: Choice) -> Markup:
     if number := len(rest) + one.others.number:
         rows.append(row([f"{count(number, 'window')} more", *sums_of(rest, one.others), ""]))
     caption = f"Windows of connection {one.opening.number}, those with trouble first"
-    return table(caption, WINDOW_HEADS, rows)
+    return table(caption, "windows", rows)
 
 
 def window_row(window: Window) -> Markup:
@@ -229,7 +219,7 @@ def others(audit: Audit, choice: Choice) -> Markup:
     said = count(len(windows) + more.number, "window")
     parts = [
         element("h2", f"{count(len(rest), 'connection')} more", id="others"),
-        table("Windows of these connections", WINDOW_HEADS, [row([said, *sums_of(windows, more), ""])]),
+        table("Windows of these connections", "windows", [row([said, *sums_of(windows, more), ""])]),
     ]
     return element("section", parts, aria_labelledby="others")
 

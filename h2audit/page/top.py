@@ -1,10 +1,10 @@
-"""The answer at a glance: one sentence, what limits it, who broke which rule, and whom to ask."""
+"""The answer at a glance: one sentence, what limits it, and whom to ask."""
 
 from collections import defaultdict
 from typing import NamedTuple
 
 from h2audit.page.model import Audit, Connection
-from h2audit.page.words import MOST_NAMED, breaches, doubts, reason_of
+from h2audit.page.words import MOST_NAMED, breaches, doubts
 from h2audit.report.charts import Json
 from h2audit.report.words import OTHER_SIDE, count, time_of
 
@@ -35,7 +35,7 @@ def headline(audit: Audit) -> str:
     """One sentence or two, as h2audit-why says it; of a report what it holds."""
     if audit.answer:
         return audit.answer.headline
-    if not any(one.opening.form == "http2" for one in audit.connections):
+    if all(one.unaudited for one in audit.connections):
         return "Nothing was audited, so nothing is said of flow control."
     return f"{broken(audit)} {held_back(audit)}"
 
@@ -58,7 +58,7 @@ def broken(audit: Audit) -> str:
 def is_partial(audit: Audit) -> bool:
     """Whether something was not audited, so that a clean answer is one of a part."""
     return bool(audit.unopened or audit.cut or audit.capture.refused or audit.capture.not_ipv4) or any(
-        one.opening.form != "http2" or any(flow.gap is not None for flow in one.flows) for one in audit.connections
+        one.unaudited or any(flow.gap is not None for flow in one.flows) for one in audit.connections
     )
 
 
@@ -77,25 +77,19 @@ def held_back(audit: Audit) -> str:
 
 def limits(audit: Audit) -> list[str]:
     """What limits the answer."""
-    named = not_audited(audit)
-    if audit.answer is None:
-        return doubts(audit) + named
-    # Connections are named; packets, and connections that began before the capture, are counted.
-    reasons = {(one["reason"] or one["outcome"]) for one in audit.answer.connections}
-    counted = [one for one in audit.answer.not_audited if one["reason"] not in reasons]
-    return audit.answer.limits + named + [f"Not audited: {one['text']}." for one in counted]
+    return (audit.answer.limits if audit.answer else doubts(audit)) + not_audited(audit)
 
 
 def not_audited(audit: Audit) -> list[str]:
-    """The connections that were not audited, by reason and by name."""
-    reasons: dict[str, list[Connection]] = defaultdict(list)
+    """What was not audited, by reason: connections are named, and packets counted."""
+    named: dict[str, list[Connection]] = defaultdict(list)
     for one in audit.connections:
-        if one.opening.form != "http2":
-            reasons[reason_of(one.opening.form)].append(one)
+        if one.unaudited:
+            named[one.unaudited].append(one)
     return [
-        f"Not audited, since {why}: {names(found)}." if not why.startswith("TLS") else
-        f"Not audited, {why}: {names(found)}." for why, found in reasons.items()
-    ]  # fmt: skip
+        f"Not audited: {text}" + (f": {names(named[why])}" if why in named else "") + "."
+        for why, text in audit.why_not.items()
+    ]
 
 
 def names(connections: list[Connection]) -> str:

@@ -10,19 +10,23 @@ import zlib
 from dataclasses import dataclass
 from itertools import islice
 
-from h2audit.page.markup import Content, Markup, element, markup, row, table
+from h2audit.page.known import packet_of
+from h2audit.page.markup import Content, Markup, element, markup, row, shortened
 from h2audit.page.model import Audit
 from h2audit.report.charts import Json
-from h2audit.report.words import count, time_of
+from h2audit.report.words import time_of
 
 MOST_BYTES = 900_000
 # Spans of a direction at most, and then so many requests.
 SPANS = (512, 64, 16, 4)
-MOST_NAME, MOST_TEXT = 200, 500
+# Of a request whose name is not known, as the answer says it.
+NAME_UNKNOWN = "(name unknown)"
 # What a direction of a request can be doing (docs/WHY.md, section 3), in the order of their colours.
 NAMES = ("waiting", "sending", "stream_stall", "connection_stall", "tcp", "others", "idle", "unseen")
 KIND = {name: at for at, name in enumerate(NAMES)}
 HELD = ("stream_stall", "connection_stall", "tcp")
+# What ends a request by itself.
+ENDS = ("END_STREAM", "RST_STREAM")
 MARGIN = 0.9
 # Of deflate: what the highest makes 4 % smaller takes three times as long.
 LEVEL = 6
@@ -129,36 +133,47 @@ def connection_row(one: Json, faults: Faults) -> Json:
 def request_row(place: int, one: Json, request: Json, faults: Faults, most: int, rank: int) -> Json:
     cause, ended = request["cause"], request["ended"]
     return {
-        "of": place, "stream": request["stream"], "name": name_of(request), "status": request["status"],
+        "of": place, "stream": request["stream"], "name": name_of(request), "status": status_of(request),
         "begin": request["opened"]["time"] - one["begin"], "nanos": request["nanos"], "rank": rank,
-        "cause": cause["kind"], "side": cause["side"], "text": cause["text"][:MOST_TEXT], "hung": int(request["hung"]),
-        "ended": ended_words(ended), "how": ended["how"], "packet": packet_of(request["opened"]),
+        "cause": cause["kind"], "side": cause["side"], "ask": cause["ask"], "text": cause["text"],
+        "life": request["life"], "hung": int(request["hung"]),
+        "ended": end_words(request), "how": ended["how"], "packet": packet_of(request["opened"]),
         "client": direction(request["client"], most), "server": direction(request["server"], most),
         "marks": marks(one, request["stream"], faults),
     }  # fmt: skip
 
 
 def name_of(request: Json) -> str:
-    name = str(request["name"] or "request")
-    return name if len(name) <= MOST_NAME else name[: MOST_NAME - 1] + "…"
+    """As the answer's text has it: a stream that the server opened is a push."""
+    return "pushed " * (int(request["stream"]) % 2 == 0) + str(request["name"] or NAME_UNKNOWN)
 
 
-def ended_words(ended: Json) -> str:
-    return by_whom(ended) + (f" {ended['code_name']}" if ended["code_name"] else "")
+def status_of(request: Json) -> str:
+    status = "no status" if request["status"] is None else str(request["status"])
+    return status + (f" grpc {request['grpc_status_name']}" if request["grpc_status"] else "")
+
+
+def end_words(request: Json) -> str:
+    """How a request ended, or that it did not."""
+    ended = request["ended"]
+    if request["end_unseen"]:
+        return "its end was not captured"
+    return "not ended: " * (ended["how"] not in ENDS) + by_whom(ended)
 
 
 def by_whom(ended: Json) -> str:
-    return f"the {ended['side']}'s {ended['how']}" if ended["side"] else "the end of the capture"
-
-
-def packet_of(at: Json) -> str:
-    return f"packet {at['packet']:,}" + (f" of file {at['file']}" if at["file"] > 1 else "")
+    if not ended["side"]:
+        return "the capture ends"
+    return f"the {ended['side']}'s {ended['how']}" + (f" {ended['code_name']}" if ended["code_name"] else "")
 
 
 def marks(one: Json, stream: int, faults: Faults) -> list[list[object]]:
-    """Faults by their time after the connection's SYN, and their kinds."""
+    """Faults by their time after the connection's SYN, their kinds, and whether they are certain."""
     found = faults.get((one["number"], stream), ())
-    return [[fault["at"]["time"] - one["begin"], fault["kind"]] for fault in islice(found, MOST_MARKS)]
+    return [
+        [fault["at"]["time"] - one["begin"], fault["kind"], int(fault["certainty"] == "certain")]
+        for fault in islice(found, MOST_MARKS)
+    ]
 
 
 def direction(one: Json, most: int) -> Json:
@@ -186,22 +201,21 @@ def request_table(found: Waterfall, times: float) -> Markup:
     """The first of the requests, those with trouble first, for readers without scripts, and screen readers."""
     shown = found.requests[: max(int(MOST_ROWS * times), 10)]
     rows = [row(cells(one, request)) for one, request in shown]
-    if rest := found.whole - len(shown):
-        rows.append(row([f"{count(rest, 'request')} more, with less trouble", *[""] * 6]))
-    heads = ["Request", "Stream", "Connection", "Status", "Life", "What held it back", "Ended by"]
-    return table("Requests, those with trouble first", heads, rows)
+    return shortened("Requests, those with trouble first", "requests", rows, found.whole)
 
 
 def cells(one: Json, request: Json) -> list[Content]:
-    status = request["status"]
+    cause = request["cause"]
+    life = [element("p", request["life"], class_="life")] if request["life"] else []
     return [
         name_of(request),
         str(request["stream"]),
         str(one["number"]),
-        "none" if status is None else str(status),
+        status_of(request),
         time_of(request["nanos"]),
-        request["cause"]["text"][:MOST_TEXT],
-        ended_words(request["ended"]),
+        element("div", [cause["text"], *life]) if life else cause["text"],
+        f"the {cause['ask']}" if cause["ask"] else "",
+        end_words(request),
     ]
 
 

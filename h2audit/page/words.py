@@ -1,29 +1,21 @@
 """What the page says in words: how much there was, what came of it, and what to doubt."""
 
+import re
 from collections import Counter
 from dataclasses import dataclass
 from datetime import datetime, timezone
 
 from h2audit.page.model import Audit, Connection, Opening
 from h2audit.report.charts import Note
-from h2audit.report.words import OTHER_SIDE, REASONS, count, duration, streams_named
+from h2audit.report.words import OTHER_SIDE, count, duration, streams_named
 
 MOST_STALLS = 10
-FORMS = {
-    "not-http2": "it is not HTTP/2, but TLS or an upgrade from HTTP/1.1",
-    "no-preface": "the client's preface was not captured whole",
-    "no-handshake": "the server's side was not captured",
-}
 MOST_NAMED = 8
 
 
-def reason_of(form: str) -> str:
-    """Why a connection was not audited, in words."""
-    if form in FORMS:
-        return FORMS[form]
-    reason = form.removeprefix("refused ")
-    known = REASONS.get(reason) or REASONS.get(reason.split(" ")[0])
-    return known.removeprefix("{n} of ") if known else f"TLS that could not be read ({reason})"
+def one_of(text: str) -> str:
+    """One of several connections, in the words that tell of all of them."""
+    return re.sub(r"^[\d,]+ connections?", "one", text)
 
 
 def counts(audit: Audit) -> str:
@@ -35,8 +27,16 @@ def counts(audit: Audit) -> str:
         f"{count(capture.records, 'packet')}, {capture.segments:,} of them TCP segments; "
         f"{count(len(connections), 'connection')}, {len(http2):,} of them audited, with {count(frames, 'frame')}"
     )
-    faults, stalls = sum(len(one.faults) for one in http2), sum(len(one.waiting) for one in http2)
-    return f"{said}; {count(faults, 'fault')}, {count(stalls, 'stall')}."
+    faults, doubtful = sum(len(one.faults) for one in http2), sum(one.doubtful for one in http2)
+    stalls = sum(len(one.waiting) for one in http2)
+    return f"{said}; {faults_words(faults, doubtful)}, {count(stalls, 'stall')}."
+
+
+def faults_words(faults: int, doubtful: int) -> str:
+    """How many there are, and how many of them can be doubted."""
+    if faults and faults == doubtful:
+        return count(faults, "doubtful fault")
+    return count(faults, "fault") + f" ({doubtful:,} of them doubtful)" * bool(doubtful)
 
 
 def doubts(audit: Audit) -> list[str]:
@@ -64,7 +64,7 @@ def doubts(audit: Audit) -> list[str]:
 
 @dataclass(frozen=True)
 class Breach:
-    """Who broke which rule, how often, in how many connections, and where first."""
+    """Who broke which rule, or may have, how often, in how many connections, and where first."""
 
     side: str
     kind: str
@@ -72,26 +72,38 @@ class Breach:
     times: int
     connections: int
     peer: str
+    is_doubtful: bool
     first: tuple[Connection, Note]
+
+    @property
+    def doubt(self) -> str:
+        """Why the first of them can be doubted."""
+        connection, note = self.first
+        fault = connection.fault(note)
+        return str(fault["doubt"] or "") if fault else ""
+
+
+Rule = tuple[str, str, str, str, bool]
 
 
 def breaches(audit: Audit) -> list[Breach]:
-    """Which peer broke which rule, the most frequent first."""
-    times: Counter[tuple[str, str, str, str]] = Counter()
-    connections: Counter[tuple[str, str, str, str]] = Counter()
-    first: dict[tuple[str, str, str, str], tuple[Connection, Note]] = {}
+    """Which peer broke which rule, those that are certain first, and then the most frequent."""
+    times: Counter[Rule] = Counter()
+    connections: Counter[Rule] = Counter()
+    first: dict[Rule, tuple[Connection, Note]] = {}
     for one in audit.connections:
         keys = [breach_of(one, note) for note in one.faults]
         times.update(keys)
         connections.update(set(keys))
         for key, note in zip(keys, one.faults):
             first.setdefault(key, (one, note))
-    return [Breach(*key[:3], number, connections[key], key[3], first[key]) for key, number in times.most_common()]
+    found = [Breach(*key[:3], number, connections[key], *key[3:], first[key]) for key, number in times.most_common()]
+    return sorted(found, key=lambda one: one.is_doubtful)
 
 
-def breach_of(one: Connection, note: Note) -> tuple[str, str, str, str]:
+def breach_of(one: Connection, note: Note) -> Rule:
     side = note.finding.broke or ""
-    return side, note.finding.kind, note.finding.section, peer(one.opening, side)
+    return side, note.finding.kind, note.finding.section, peer(one.opening, side), one.is_doubtful(note)
 
 
 def peer(opening: Opening, side: str) -> str:
@@ -139,11 +151,11 @@ def whom_to_ask(connection: Connection, stall: Note) -> str:
     return f"the {other}, {endpoint(connection.opening, other)}"
 
 
-def verdict(one: Connection) -> str:
+def verdict(audit: Audit, one: Connection) -> str:
     """How the audit of a connection ended."""
-    if one.opening.form != "http2":
-        return f"not audited: {reason_of(one.opening.form)}"
-    said = [count(len(one.faults), "fault") if one.faults else "no fault"]
+    if one.unaudited:
+        return f"not audited: {one_of(audit.why_not[one.unaudited])}"
+    said = [faults_words(len(one.faults), one.doubtful) if one.faults else "no fault"]
     if one.waiting:
         said.append(count(len(one.waiting), "stall"))
     if one.stopped_at is not None:

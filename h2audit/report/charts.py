@@ -2,15 +2,15 @@
 
 import json
 import os
-import shutil
 import tempfile
 from collections.abc import Sequence
 from dataclasses import dataclass
 from typing import IO, Any, BinaryIO, NamedTuple
 
-from h2audit.report.command import IO_FAILED, Failed
+from h2audit.report.command import BUFFER, IO_FAILED, Failed
 from h2audit.report.interrupts import Interrupted, end_by, signals_raise
 from h2audit.report.programs import program_named, running, without_name
+from h2audit.report.progress import Line, progress
 
 Json = dict[str, Any]
 WHY = "h2audit-why"
@@ -94,18 +94,25 @@ def document_of_report(report: BinaryIO) -> Json:
 def document_of(words: Sequence[str], source: BinaryIO | None, statuses: Sequence[int]) -> Json:
     """The document that h2audit-why prints by these words, ending with one of these statuses. A signal ends it."""
     try:
-        with signals_raise(), tempfile.TemporaryFile() as read, tempfile.TemporaryFile() as out:
+        with signals_raise(), progress() as line, tempfile.TemporaryFile() as read, tempfile.TemporaryFile() as out:
             if source:
-                shutil.copyfileobj(source, read)
-                read.seek(0)
-            return run([program_named(WHY), *words], read, out, statuses)
+                copy(source, read, line)
+            return run([program_named(WHY), *words], read, out, statuses, line)
     except Interrupted as why:
         end_by(why.args[0])
         raise
 
 
-def run(words: Sequence[str], source: IO[bytes], out: IO[bytes], statuses: Sequence[int]) -> Json:
-    with running(words, source, out) as program:
+def copy(source: BinaryIO, to: IO[bytes], line: Line) -> None:
+    size = 0
+    while octets := source.read(BUFFER):
+        size += to.write(octets)
+        line.tell(f"{size / 10**6:,.0f} MB read")
+    to.seek(0)
+
+
+def run(words: Sequence[str], source: IO[bytes], out: IO[bytes], statuses: Sequence[int], line: Line) -> Json:
+    with running(words, source, out, line) as program:
         status, said = program.end()
     if status not in statuses:
         why = without_name(said) if status >= 0 else f"{os.path.basename(words[0])}: ended by signal {-status}"

@@ -14,6 +14,7 @@ from typing import IO
 
 from h2audit.report.command import IO_FAILED, Failed
 from h2audit.report.interrupts import SIGNALS
+from h2audit.report.progress import Line, Relay
 
 HERE = Path(os.path.realpath(sys.argv[0])).parent
 TOP = Path(__file__).resolve().parents[2]
@@ -41,19 +42,41 @@ def program_named(name: str) -> str:
 
 
 @contextlib.contextmanager
-def running(words: Sequence[str], source: IO[bytes], out: IO[bytes]) -> "Iterator[Running]":
+def running(words: Sequence[str], source: IO[bytes], out: IO[bytes], line: Line) -> "Iterator[Running]":
     """A program that runs meanwhile. Where this one is interrupted, that one ends too."""
     with contextlib.ExitStack() as stack:
-        said = stack.enter_context(tempfile.TemporaryFile())
+        said: Kept | Relay = Relay(line) if line.is_shown else Kept()
+        stack.callback(said.close)
         before = signal.pthread_sigmask(signal.SIG_BLOCK, SIGNALS)
         stack.callback(signal.pthread_sigmask, signal.SIG_SETMASK, before)
         unblock = partial(signal.pthread_sigmask, signal.SIG_SETMASK, before)
-        child = subprocess.Popen(words, stdin=source, stdout=out, stderr=said, preexec_fn=unblock)
+        child = subprocess.Popen(words, stdin=source, stdout=out, stderr=said.of_program, preexec_fn=unblock)
         try:
             unblock()
+            said.begun()
             yield Running(child, said)
         finally:
             end(child)
+
+
+class Kept:
+    """What a program says on standard error."""
+
+    def __init__(self) -> None:
+        self.file = tempfile.TemporaryFile()
+        self.of_program = self.file.fileno()
+
+    def begun(self) -> None:
+        """The program has its end, which is this one's too."""
+
+    def close(self) -> None:
+        self.file.close()
+
+    def read(self, child: subprocess.Popen[bytes]) -> bytes:
+        """What it said, once it has ended."""
+        child.wait()
+        self.file.seek(0)
+        return self.file.read(MOST_SAID)
 
 
 def end(child: subprocess.Popen[bytes]) -> None:
@@ -67,14 +90,13 @@ def end(child: subprocess.Popen[bytes]) -> None:
 
 
 class Running:
-    def __init__(self, child: subprocess.Popen[bytes], said: IO[bytes]) -> None:
+    def __init__(self, child: subprocess.Popen[bytes], said: Kept | Relay) -> None:
         self.child, self.said = child, said
 
     def end(self) -> tuple[int, str]:
         """Waits for it: its status, and what it said."""
-        status = self.child.wait()
-        self.said.seek(0)
-        return status, self.said.read(MOST_SAID).decode(errors="backslashreplace").strip()
+        said = self.said.read(self.child)
+        return self.child.wait(), said.decode(errors="backslashreplace").strip()
 
 
 def without_name(said: str) -> str:

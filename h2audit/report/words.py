@@ -1,18 +1,9 @@
-"""How times and numbers are worded: durations, counts, lists of streams, reasons why a connection was not read."""
+"""How times and numbers are worded: durations, counts, lists of streams."""
 
 from collections.abc import Sequence
 
 OTHER_SIDE = {"client": "server", "server": "client"}
 MOST_NAMED = 8
-# Reasons of the map and forms of the report, in words; {n} is "3 connections".
-REASONS = {
-    "no-key": "{n} of TLS without a key in the key logs (-k)",
-    "wrong-key": "{n} of TLS whose keys in the key logs are those of another run",
-    "no-handshake": "{n} of which one direction alone was captured",
-    "not-http2": "{n} that spoke no HTTP/2, or began by an upgrade",
-    "no-preface": "{n} whose client sent no whole preface of HTTP/2",
-    "handshake-unfinished": "{n} of TLS that ended before the handshake did",
-}
 
 
 def time_of(nanos: int) -> str:

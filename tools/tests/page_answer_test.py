@@ -3,6 +3,7 @@ hand here, and what it says of a report alone.
 """
 
 import base64
+import html
 import json
 import pathlib
 import unittest
@@ -12,7 +13,7 @@ from unittest import mock
 
 from h2audit.page import waterfall
 from h2audit.page.series import series_of
-from h2audit.page.summary import summary
+from h2audit.page.summary import top
 from h2audit.page.top import asked, headline
 from h2audit.page.waterfall import joined
 from tools.tests.page_answers import (
@@ -20,9 +21,11 @@ from tools.tests.page_answers import (
     HEAD,
     MS,
     START,
+    at,
     audit_of,
     connection,
     document_of,
+    doubtful,
     finding,
     many,
     opening,
@@ -92,9 +95,9 @@ class Sentences(unittest.TestCase):
     def test_what_was_not_audited_limits_it(self) -> None:
         """No rule is said to be kept where something was not audited, which stands below by its name."""
         other = opening(2).replace("http2 frames 40", "refused no-key") + FLOWS
-        text = summary(audit_of(HEAD + opening(1) + FLOWS + "audit of all frames\n" + other), set())
+        text = top(audit_of(HEAD + opening(1) + FLOWS + "audit of all frames\n" + other))
         self.assertIn("No rule was broken in what was audited.", text)
-        self.assertIn("TLS without a key in the key logs (-k): connection 2 (10.0.0.1:2 to 10.0.0.2:443).", text)
+        self.assertIn("1 connection of TLS without a key in the key logs (-k): connection 2 (10.0.0.1:2 to 10", text)
         self.assertNotIn("no-key", text)
 
     def test_a_grant_of_nothing(self) -> None:
@@ -116,6 +119,110 @@ class Sentences(unittest.TestCase):
             "<li>Not audited: 3 connections that began before the capture.</li>",
         ):
             self.assertIn(said, text)
+
+
+class Doubts(unittest.TestCase):
+    """Who may have broken a rule is not said to have broken it."""
+
+    def test_none_is_certain(self) -> None:
+        text = page_of(*doubtful())
+        said = rows(text)
+        doubt = "It is gone if the SETTINGS in packet 4 count from there on: the server had not acknowledged them."
+        self.assertIn("the server, 10.0.0.2:443|stream-overrun|RFC 9113, 6.9.1|18|1|connection 1, frame 10, packet 10|"
+                      + doubt, said)  # fmt: skip
+        self.assertNotIn("Who broke which rule", text)
+        self.assertIn("18 doubtful faults, 0 stalls.", text)
+        self.assertIn("Verdict: 18 doubtful faults.", text)
+        (first, *more) = [row.split("|") for row in said if "its window: 65,535 at first. " + doubt in row]
+        self.assertEqual((first[:3], len(more)), (["10", "10", "100 ms"], 17))
+        self.assertTrue(first[3].startswith("Doubtful: server sent 5 bytes past its credit on stream 1"), first)
+
+    def test_some_are(self) -> None:
+        """Each has its own table, and the sums tell them apart, also in the charts."""
+        report, document = doubtful()
+        document["connections"][0]["faults"][0].update(certainty="certain", doubt=None)
+        text = page_of(report, document)
+        said = [row.split("|")[:4] for row in rows(text) if "|stream-overrun|" in row]
+        self.assertEqual([row[-1] for row in said], ["1", "17"])
+        self.assertIn("Verdict: 18 faults (17 of them doubtful).", text)
+        window = audit_of(report, document).windows[0]
+        self.assertEqual([kind for _, kind, _, _ in series_of(window).faults],
+                         [("stream-overrun", number > 0) for number in range(18)])  # fmt: skip
+
+    def test_of_a_report(self) -> None:
+        """What a report does not tell is not said."""
+        report, _ = doubtful()
+        text = page_of(report)
+        self.assertIn("Who broke which rule", text)
+        self.assertNotIn("oubtful", "".join(rows(text)))
+
+
+class Known(unittest.TestCase):
+    """What h2audit-why tells of a connection beside its findings."""
+
+    def page(self, **members: Any) -> str:
+        report, document = stalled()
+        document["connections"][0].update(members)
+        return page_of(report, document)
+
+    def test_facts(self) -> None:
+        text = self.page(
+            notes=["the server answered by HTTP/1.1 400 in packet 7: it speaks no HTTP/2 here"],
+            round_trip={"nanos": 160 * MS, "source": "http2"},
+            captured_at="between",
+            uncaptured={"client": 0, "server": 1460},
+            tls="TLS 1.3",
+        )
+        for said in (
+            "The server answered by HTTP/1.1 400 in packet 7: it speaks no HTTP/2 here.",
+            "Round trip 160 ms, by HTTP/2's reactions.",
+            "Captured between the peers.",
+            "1,460 bytes that the server sent were acknowledged, and no packet has them.",
+            "TLS: TLS 1.3.",
+        ):
+            self.assertIn(f"<li>{html.escape(said)}</li>", text)
+
+    def test_settings(self) -> None:
+        settings = [
+            {"side": "client", "initial_window": 100000, "at": at(4, START, 1), "acknowledged": at(7, START, 3)},
+            {"side": "server", "initial_window": 0, "at": at(5, START, 2), "acknowledged": None},
+        ]
+        said = rows(self.page(settings=settings))
+        self.assertIn("the client|100,000|packet 4|packet 7", said)
+        self.assertIn("the server|0|packet 5|not acknowledged", said)
+        self.assertIn("51 more", [row.split("|")[0] for row in rows(self.page(settings=settings * 50 + settings[:1]))])
+
+    def test_signals(self) -> None:
+        signal = {"side": "server", "code": 3, "code_name": "FLOW_CONTROL_ERROR", "at": at(90, START, 30)}
+        goaway = {**signal, "word": "GOAWAY", "stream": 0, "last_stream": 7, "debug": "<too much>"}
+        reset = {**signal, "word": "RST_STREAM", "stream": 5, "last_stream": None, "debug": None}
+        fin = {"how": "FIN", "side": "server", "code_name": None, "at": at(91, START)}
+        said = rows(self.page(signals=[goaway, reset], ended=fin))
+        self.assertIn("the server|GOAWAY|FLOW_CONTROL_ERROR|packet 90|last stream 7|<too much>", said)
+        self.assertIn("the server|RST_STREAM|FLOW_CONTROL_ERROR|packet 90|stream 5", said)
+        self.assertIn("the server|FIN|packet 91|the connection", said)
+        said = rows(self.page(signals=[reset], ended={**fin, "side": "client", "how": "RST"}))
+        self.assertIn("the client|RST|packet 91|the connection, no GOAWAY", said)
+
+    def test_requests(self) -> None:
+        """The whole life, a status of gRPC, a push, and an end that was not captured."""
+        report, document = stalled()
+        document["connections"][0]["requests"][0].update(
+            life="2.05 s: the server's window 2 s (98 %)", grpc_status=14, grpc_status_name="UNAVAILABLE", stream=2,
+            end_unseen=True, name=None,
+        )  # fmt: skip
+        self.assertIn(
+            "pushed (name unknown)|2|1|200 grpc UNAVAILABLE|2.05 s|HUNG for 2 s: the client granted nothing|"
+            "2.05 s: the server's window 2 s (98 %)|the client|its end was not captured",
+            rows(page_of(report, document)),
+        )
+
+    def test_many_warnings(self) -> None:
+        report, document = stalled()
+        document["warnings"] = [{"text": f"bytes are missing from {at}", "connection": 1} for at in range(30000)]
+        text = page_of(report, document)
+        self.assertEqual(text.count("bytes are missing from"), 100)
+        self.assertIn("<li>29,900 warnings more, which h2audit-why tells.</li>", text)
 
 
 class Sums(unittest.TestCase):
@@ -177,7 +284,8 @@ class Requests(unittest.TestCase):
     def test_each_is_in_the_table(self) -> None:
         text = page_of(*stalled())
         self.assertIn(
-            "GET /hung|1|1|200|2.05 s|HUNG for 2 s: the client granted nothing|the end of the capture", rows(text)
+            "GET /hung|1|1|200|2.05 s|HUNG for 2 s: the client granted nothing|the client|not ended: the capture ends",
+            rows(text),
         )
         names = [one["name"] for one in self.packed(text)["requests"]]
         self.assertEqual(names, ["GET /faulty", "GET /hung", "GET /calm"])
@@ -186,7 +294,7 @@ class Requests(unittest.TestCase):
         said = self.packed(page_of(*stalled()))
         faulty, hung, _ = said["requests"]
         self.assertEqual(hung["server"]["spans"], [50 * MS, 1, 2000 * MS, 2])
-        self.assertEqual((faulty["marks"], hung["hung"]), ([[80 * MS, "zero-stream-grant"]], 1))
+        self.assertEqual((faulty["marks"], hung["hung"]), ([[80 * MS, "zero-stream-grant", 1]], 1))
 
     def test_no_request(self) -> None:
         text = page_of(HEAD + opening(1) + FLOWS + finding(1, 5, "client", "connection-credit", 0, 9),
@@ -201,7 +309,7 @@ class Requests(unittest.TestCase):
             document["connections"][0]["requests"][0]["cause"]["text"] = evil
             text = page_of(report, document)
             self.assertEqual([tag for tag, _ in Tags(text).elements], plain)
-            self.assertLess(len(text), 300_000)
+            self.assertLess(len(text), 600_000)
 
     def test_joined_spans_take_the_same_time(self) -> None:
         spans: list[list[int | str]] = [[at, at + 1, "sending" if at % 2 else "stream_stall"] for at in range(1000)]

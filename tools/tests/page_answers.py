@@ -42,6 +42,7 @@ def request(stream: int, name: str, opened: int, spans: list[list[Any]], said: J
              "code_name": None, "at": at(9, opened + nanos)}  # fmt: skip
     return {
         "stream": stream, "name": name, "method": "GET", "path": "/", "authority": None, "status": 200,
+        "grpc_status": None, "grpc_status_name": None, "end_unseen": False, "life": None,
         "opened": at(3, opened, 3), "ended": ended, "nanos": nanos, "client": direction([]),
         "server": direction(spans, 1000), "hung": hung, "cause": said,
     }  # fmt: skip
@@ -51,8 +52,17 @@ def connection(number: int, nanos: int, requests: list[Json], stalls: list[Json]
     return {
         "number": number, "client": f"10.0.0.1:{number}", "server": "10.0.0.2:443", "opened": at(number, START),
         "outcome": "http2", "reason": None, "frames": 40, "begin": START, "nanos": nanos, "limits": [], "faults": [],
-        "stalls": stalls or [], "requests": requests, "ended": {"how": "capture", "side": None},
+        "stalls": stalls or [], "requests": requests, "tls": None, "captured_at": None, "settings": [], "signals": [],
+        "round_trip": {"nanos": None, "source": None}, "uncaptured": {"client": 0, "server": 0}, "notes": [],
+        "ended": {"how": "capture", "side": None, "code_name": None, "at": at(99, START + nanos)},
     }  # fmt: skip
+
+
+def fault(kind: str, side: str, stream: int, value: int, where: Json, doubt: str | None = None) -> Json:
+    """A fault of this side, certain unless there is a doubt."""
+    return {"kind": kind, "side": side, "broke": side, "section": "6.9", "stream": stream, "value": value, "at": where,
+            "certainty": "settings" if doubt else "certain", "doubt": doubt, "set_by": [],
+            "set_by_text": "65,535 at first" if "overrun" in kind else None, "text": ""}  # fmt: skip
 
 
 def document_of(connections: list[Json], text: str = "Flow control held back 1 request.") -> Json:
@@ -123,8 +133,23 @@ def stalled() -> tuple[str, Json]:
     calm = request(5, "GET /calm", START + 55 * MS, [[0, 5 * MS, "waiting"], [5 * MS, 300 * MS, "idle"]], cause())
     faulty = request(3, "GET /faulty", START + 70 * MS, [[0, 20 * MS, "tcp"], [20 * MS, MS, "unseen"]], cause())
     one = connection(1, 2100 * MS, [hung, faulty, calm], [stall])
-    one["faults"] = [{"kind": "zero-stream-grant", "stream": 3, "at": at(7, START + 80 * MS, 7)}]
+    one["faults"] = [fault("zero-stream-grant", "client", 3, 0, at(7, START + 80 * MS, 7))]
     return report, document_of([one])
+
+
+def doubtful(number: int = 18) -> tuple[str, Json]:
+    """A connection with so many overruns of its server, each of which can be doubted, and one request."""
+    report, faults = HEAD + opening(1) + FLOWS, []
+    for place in range(number):
+        frame, after = 10 + place, (100 + place) * MS
+        report += finding(frame, after, "server", "stream-overrun", 1, -5 - place)
+        report += finding(frame, after, "server", "stream-credit", 1, -5 - place)
+        where = at(frame, START + after, frame)
+        doubt = "it is gone if the SETTINGS in packet 4 count from there on: the server had not acknowledged them"
+        faults.append(fault("stream-overrun", "server", 1, -5 - place, where, doubt))
+    one = connection(1, 500 * MS, [request(1, "GET /a", START + MS, [[0, 400 * MS, "sending"]], cause())])
+    one["faults"] = faults
+    return report + "audit of all frames\n", document_of([one], "Doubtful: the server broke RFC 9113, 6.9.1.")
 
 
 def many(connections: int, requests: int) -> tuple[str, Json]:

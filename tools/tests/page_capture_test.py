@@ -1,9 +1,11 @@
-"""Tests of h2audit-page on captures, by the programs that it runs: it says what h2audit-why says.
+"""Tests of h2audit-page on captures, by the programs that it runs. why_forms_test has what a page says.
 
     python3 -m tools.tests.page_capture_test [H2AUDIT] [TEST..]
 """
 
+import contextlib
 import html
+import io
 import os
 import pathlib
 import re
@@ -18,7 +20,10 @@ from unittest import mock
 from h2audit.page.program import arguments
 from h2audit.page.sources import audit_of
 from h2audit.page.top import asked
-from tools.tests.why_tools import TOP, WHY, has_programs, programs_of, said_of
+from h2audit.report.charts import copy
+from h2audit.report.command import BUFFER
+from h2audit.report.progress import Line
+from tools.tests.why_tools import TOP, WHY, has_programs, programs_of
 
 PAGE = TOP / "tools" / "h2audit-page"
 EXAMPLES = sorted((TOP / "examples").glob("*.pcap"))
@@ -40,19 +45,6 @@ def text_of(document: str) -> str:
 
 
 class Examples(unittest.TestCase):
-    def test_page_and_terminal_say_the_same(self) -> None:
-        """The sentence on top, each request with its cause, and each fault."""
-        for capture in EXAMPLES:
-            with self.subTest(capture.name):
-                said, shown = said_of(capture), text_of(page(capture))
-                self.assertIn(f"\n{said['summary']['text']}\n", shown)
-                for one in said["connections"]:
-                    for request in one["requests"]:
-                        self.assertIn(f"\n{request['cause']['text']}\n", shown)
-                        self.assertIn(f"\n{request['name'] or 'request'}\n", shown)
-                    for fault in one["faults"]:
-                        self.assertIn(f"\n{fault['text']}\n", shown)
-
     def test_sums_hold_the_longest(self) -> None:
         """Of each row of whom to ask: the time of all is no less than that of its longest request."""
         self.enterContext(mock.patch.dict(os.environ, {"H2AUDIT_WHY": str(WHY)}))
@@ -90,6 +82,78 @@ class Examples(unittest.TestCase):
     def test_of_a_report_as_before(self) -> None:
         report = TOP / "examples" / "stream_overrun_go.frames.report"
         self.assertIn("Made by h2audit-page from a report of h2audit.", page(report))
+
+
+class Progress(unittest.TestCase):
+    """What h2audit-why shows on a terminal, the page's line shows; a pipe gets what went wrong alone."""
+
+    # It shows how far it is to a terminal alone, and then fails.
+    FAILS = """
+if test -t 2; then
+    printf '\\rh2audit-why: 5 of 9 MB' >&2
+    sleep 0.1
+    printf '\\rh2audit-why: 7 of 9 MB' >&2
+    printf '\\r                       \\r' >&2
+fi
+echo 'h2audit-why: capture refused: bad-magic: a.pcap' >&2
+exit 3
+"""
+
+    def setUp(self) -> None:
+        folder = tempfile.TemporaryDirectory()
+        self.addCleanup(folder.cleanup)
+        self.program = pathlib.Path(folder.name, "stand-in")
+
+    def begun(self, script: str, stderr: int) -> subprocess.Popen[bytes]:
+        self.program.write_text("#!/bin/sh\n" + script)
+        self.program.chmod(0o755)
+        environment = {**os.environ, "H2AUDIT_WHY": str(self.program)}
+        return subprocess.Popen([PAGE, EXAMPLES[0], "-o", "/dev/null"], stderr=stderr, env=environment)
+
+    def on_terminal(self, script: str, number: int = 0) -> tuple[int, str]:
+        """The status of a run, which may get a signal, and all that its terminal got."""
+        master, slave = os.openpty()
+        running = self.begun(script, slave)
+        os.close(slave)
+        text = b""
+        with contextlib.suppress(OSError):
+            while octets := os.read(master, 4096):
+                text += octets
+                if number and b"5 of 9" in text:
+                    running.send_signal(number)
+                    number = 0
+        os.close(master)
+        return running.wait(60), text.decode()
+
+    def test_on_a_terminal(self) -> None:
+        status, text = self.on_terminal(self.FAILS)
+        line, nothing = "\rh2audit-page: {} of 9 MB", "\r" + " " * len("h2audit-page: 5 of 9 MB") + "\r"
+        said = "h2audit-page: capture refused: bad-magic: a.pcap\r\n"
+        self.assertEqual((status, text), (3, line.format(5) + line.format(7) + nothing + said))
+
+    def test_on_a_pipe(self) -> None:
+        with self.begun(self.FAILS, subprocess.PIPE) as running:
+            assert running.stderr
+            said = running.stderr.read()
+        self.assertEqual((running.returncode, said), (3, b"h2audit-page: capture refused: bad-magic: a.pcap\n"))
+
+    def test_a_signal(self) -> None:
+        """The line is gone, and nothing is said."""
+        script = "printf '\\rh2audit-why: 5 of 9 MB\\r' >&2\nexec sleep 100\n"
+        status, text = self.on_terminal(script, signal.SIGTERM)
+        self.assertEqual((status, text.split("\r")[2:]), (-signal.SIGTERM, [" " * len("h2audit-page: 5 of 9 MB"), ""]))
+
+    def test_standard_input(self) -> None:
+        """It is copied first, and how much of it is told from two seconds on, twice a second at most."""
+        line = Line()
+        line.is_shown = True
+        with mock.patch.object(Line, "write") as write, mock.patch("time.monotonic") as now:
+            now.side_effect = [line.next + more for more in (-0.01, 0, 0, 0.4, 0.6, 0.6)]
+            source = io.BytesIO(bytes(4 * BUFFER))
+            with tempfile.TemporaryFile() as to:
+                copy(source, to, line)
+        told = [call.args[0].partition(": ")[2].rstrip() for call in write.call_args_list]
+        self.assertEqual(told, ["1 MB read", "1 MB read"])
 
 
 class Endings(unittest.TestCase):

@@ -149,8 +149,9 @@ class Examples(unittest.TestCase):
         text = page_of(HEAD + "connection 1 client 1.2.3.4:5 server 1.2.3.4:6 record 1 not-http2\n" + BOTH_FLOWS)
         self.assertIn("Nothing was audited", text)
         text = page_of(HEAD + "connection 1 client [::1]:5 server [::1]:6 record 1 refused no-key\n")
-        self.assertIn("Verdict: not audited: TLS without a key in the key logs (-k).", text)
-        self.assertIn("Not audited, TLS without a key in the key logs (-k): connection 1 ([::1]:5 to [::1]:6).", text)
+        self.assertIn("Verdict: not audited: one of TLS without a key in the key logs (-k).", text)
+        said = "Not audited: 1 connection of TLS without a key in the key logs (-k): connection 1 ([::1]:5 to [::1]:6)."
+        self.assertIn(said, text)
 
     def test_doubts(self) -> None:
         text = page_of(
@@ -455,7 +456,7 @@ class Thinning(unittest.TestCase):
         self.assertEqual((least.marked, sum(one[3] for one in least.faults)), (91, 91))
         kinds = [note.finding.kind for note in window.faults]
         for kind in set(kinds):
-            self.assertEqual(sum(one[3] for one in least.faults if one[1] == kind), kinds.count(kind))
+            self.assertEqual(sum(one[3] for one in least.faults if one[1] == (kind, False)), kinds.count(kind))
 
     def test_points_at_ends_without_credit_lines(self) -> None:
         """A reset ends a stall with no credit line; the chart has a point there all the same."""
@@ -463,13 +464,13 @@ class Thinning(unittest.TestCase):
         window = audit_of(text).windows[0]
         series = series_of(window)
         self.assertEqual(list(zip(series.frames, series.credits)), [(5, 10000), (6, 0), (7, -5000), (8, -5000)])
-        self.assertEqual((series.stalls, series.faults), ([(1, 3, 1)], [(2, "stream-overrun", -5000, 1)]))
+        self.assertEqual((series.stalls, series.faults), ([(1, 3, 1)], [(2, ("stream-overrun", False), -5000, 1)]))
 
     def test_faults_whose_window_has_no_chart(self) -> None:
         """They stand in the charts of their connection: here one on a stream that was never opened."""
         charts = chart_data.packed(audit_of((EXAMPLES / "use_after_reset.frames.report").read_text()))
         said = unpacked(charts)
-        self.assertEqual((said["elsewhere"][0::3], said["elsewhere"][1::3]), ([0], [8]))
+        self.assertEqual((said["elsewhere"][0::4], said["elsewhere"][1::4]), ([0], [8]))
         self.assertEqual((charts.marked, charts.marks_in_report), (2, 2))
 
     def test_too_many_marks_share_a_shade(self) -> None:

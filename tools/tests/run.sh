@@ -95,6 +95,7 @@ try 'page of a million lines in a browser' page_browser_test Large
 try 'page of many connections in a browser' page_browser_test Crowded
 try 'page of requests in a browser' page_waterfall_test
 try_built 'page of captures' page_capture_test "$built"
+try_built 'page on screens and paper' page_screens_test "$built"
 try 'library example' library_example_test
 try 'captures of TLS' import_test "${audits[@]}"
 try 'forms of captures' import_forms_test

@@ -1,6 +1,6 @@
 """Tests that all forms in which h2audit-why answers say the same of each request, and of each connection that was not
-audited, over all captures of the repository: text, JSON, lines of JSON, charts, rows, JUnit, and a comparison with
-itself.
+audited, over all captures of the repository: text, JSON, lines of JSON, charts, rows, JUnit, the page, and a comparison
+with itself.
 
     python3 -m tools.tests.why_forms_test [H2AUDIT] [TEST..]
 """
@@ -15,6 +15,7 @@ from collections.abc import Iterator
 from typing import Any
 
 from h2audit.report.words import time_of
+from tools.tests import page_forms
 from tools.tests.why_test import SCHEMA, words_for
 from tools.tests.why_tools import TOP, Json, OnCaptures, has_programs, programs_of, ran
 
@@ -79,6 +80,9 @@ class Forms(OnCaptures):
                 self.text(found, words)
                 self.junit(found, said, words)
                 self.compared(said, capture, words)
+                charted, page = page_forms.page_of(words)
+                validator.validate(charted)
+                page_forms.judge(self, found, page)
         self.assertGreater(requests, 150)
 
     def lines(self, said: Named, words: list[str]) -> None:

@@ -1,8 +1,10 @@
 //! What a page shows, as members of one document: of a capture beside those of --json, of a report by themselves.
 
+use std::collections::BTreeMap;
 use std::io::{self, Write};
 
 use explain::answer::{ChartsSaid, ConnectionSaid, Files, Nanos};
+use explain::words::reason_words;
 use explain::{ReportSaid, ReportedConnection};
 use reports::{section_of, what_happened, who_is_to_blame, Capture, Finding, Flow, Form, Kind, Note, Pairing, Side};
 
@@ -10,6 +12,10 @@ use crate::asked::{asked_of_report, Lost, Matter};
 use crate::json::Json;
 
 const VERSION: u32 = 1;
+/// Before the reason in the form of a connection that was not audited.
+const REFUSED: &str = "refused ";
+/// What a report alone says of a connection of which a capture tells more; and the reason that has its words.
+const NO_HANDSHAKE: (&str, &str) = ("no-handshake", "no-syn-ack");
 
 /// What stands before the connections.
 pub fn heading(json: &mut Json<'_>, counts: &Capture, asked: &[(Matter, Lost)]) {
@@ -47,7 +53,7 @@ fn matters(json: &mut Json<'_>, asked: &[(Matter, Lost)]) {
 pub fn of_connection(json: &mut Json<'_>, said: &ConnectionSaid, files: &Files) -> io::Result<()> {
     json.name("charts").open(b'{');
     let form =
-        if said.reason.is_empty() { said.outcome.name().to_string() } else { format!("refused {}", said.reason) };
+        if said.reason.is_empty() { said.outcome.name().to_string() } else { format!("{REFUSED}{}", said.reason) };
     json.name("form").text(&form);
     json.name("record").number(said.opened.packet);
     json.name("frames").number(said.frames);
@@ -166,12 +172,31 @@ pub fn write_report(said: &ReportSaid, to: &mut dyn Write) -> io::Result<()> {
         json.name("unopened").number(said.unopened);
         json.name("unopened_segments").number(said.unopened_segments);
     });
+    not_audited(&mut json, &said.connections);
     json.name("connections").open(b'[');
     said.connections.iter().try_for_each(|one| reported(&mut json, one))?;
     json.close(b']');
     json.close(b'}');
     json.line();
     json.finish()
+}
+
+/// The connections that were not audited, by reason, as an answer has them.
+fn not_audited(json: &mut Json<'_>, connections: &[ReportedConnection]) {
+    let mut reasons = BTreeMap::<String, u64>::new();
+    for form in connections.iter().map(|one| &one.opening.form).filter(|form| !matches!(form, Form::Http2 { .. })) {
+        let form = form_of(form);
+        let reason = form.strip_prefix(REFUSED).unwrap_or(&form);
+        *reasons.entry(reason.to_string()).or_default() += 1;
+    }
+    json.name("not_audited").list(&reasons, |json, (reason, number)| {
+        let known = if reason == NO_HANDSHAKE.0 { NO_HANDSHAKE.1 } else { reason.as_str() };
+        json.object(|json| {
+            json.name("reason").text(reason);
+            json.name("count").number(*number);
+            json.name("text").text(&reason_words(known, *number));
+        });
+    });
 }
 
 fn reported(json: &mut Json<'_>, one: &ReportedConnection) -> io::Result<()> {
@@ -200,6 +225,6 @@ fn form_of(form: &Form) -> String {
         Form::NotHttp2 => "not-http2".to_string(),
         Form::NoPreface => "no-preface".to_string(),
         Form::NoHandshake => "no-handshake".to_string(),
-        Form::Refused(reason) => format!("refused {reason}"),
+        Form::Refused(reason) => format!("{REFUSED}{reason}"),
     }
 }

@@ -53,8 +53,11 @@ class Chart {
   }
 
   rows() {
-    const crosses = new Map(this.series.faults.map(fault => [fault.point, this.series.credits[fault.point]]));
-    return this.x.map((x, point) => [x, this.series.credits[point], crosses.get(point) ?? null]);
+    const { credits, faults } = this.series;
+    const at = isDoubtful => new Set(faults.filter(one => one.isDoubtful === isDoubtful).map(one => one.point));
+    const certain = at(0), doubtful = at(1);
+    return this.x.map((x, point) =>
+      [x, credits[point], ...[doubtful, certain].map(some => some.has(point) ? credits[point] : null)]);
   }
 
   draw() {
@@ -62,11 +65,11 @@ class Chart {
     const label = this.isByFrame ? "frame" : `${this.unit} since the ${charts.from} of the connection`;
     this.graph?.destroy();
     this.graph = new Dygraph(this.box, this.rows(), {
-      labels: [label, "credit", "fault"], colors: [colour.line, colour.fault],
+      labels: [label, "credit", "doubtful", "fault"], colors: [colour.line, colour.text, colour.fault],
       stepPlot: true, connectSeparatedPoints: true,
       includeZero: true, xRangePad: 8, yRangePad: 12, strokeWidth: 1.6, pointSize: 2, drawPoints: this.x.length < 1000,
       gridLineColor: colour.grid, axisLineColor: colour.text, xlabel: label, ylabel: "bytes", xLabelHeight: 18,
-      series: { fault: FAULTS },
+      series: { doubtful: FAULTS, fault: FAULTS },
       axes: {
         x: { axisLabelFormatter: grouped, axisLabelWidth: 100 },
         y: { axisLabelFormatter: grouped, axisLabelWidth: 124, pixelsPerLabel: 24 },
@@ -90,9 +93,11 @@ class Chart {
       canvas.fillStyle = colour["stall-edge"];
       canvas.fillRect(left, area.y, 1, area.h);
     }
-    canvas.strokeStyle = colour.fault;
     canvas.setLineDash([4, 3]);
-    for (const fault of this.faultsOfConnection) line(canvas, area, graph.toDomXCoord(this.at(fault)));
+    for (const fault of this.faultsOfConnection) {
+      canvas.strokeStyle = fault.isDoubtful ? colour.text : colour.fault;
+      line(canvas, area, graph.toDomXCoord(this.at(fault)));
+    }
     canvas.setLineDash([]);
     canvas.fillStyle = colour.text;
     const zero = graph.toDomYCoord(0);
@@ -110,7 +115,8 @@ class Chart {
     const here = faults.filter(fault => fault.point === row);
     const shared = stalls.filter(({ begin, end, times }) => times > 1 && begin <= row && row <= (end ?? row));
     output.textContent = `Frame ${grouped(frames[row])}, ${duration(nanos[row])}: credit ${grouped(credits[row])} bytes`
-      + here.map(({ kind, broke, times }) => `; ${kind} by the ${broke}${moreOf(times)}`).join("")
+      + here.map(({ kind, broke, times, isDoubtful }) =>
+        `; ${isDoubtful ? "doubtful: " : ""}${kind} by the ${broke}${moreOf(times)}`).join("")
       + shared.map(({ times }) => `; ${grouped(times)} stalls share this shade`).join("");
   }
 

@@ -57,9 +57,9 @@ function summed(column, begin, size, first = column[begin]) {
 function faultsOf(said, one) {
   const found = [];
   for (let at = one.firstFault; at < one.firstFault + OF_FAULT * one.faults; at += OF_FAULT) {
-    const [kind, isOfOther] = said.kinds[said.faults[at + 1]];
-    const other = one.side === "client" ? "server" : "client";
-    found.push({ point: said.faults[at], kind, broke: isOfOther ? other : one.side, times: said.faults[at + 3] });
+    const [kind, isOfOther, isDoubtful] = said.kinds[said.faults[at + 1]];
+    const other = one.side === "client" ? "server" : "client", times = said.faults[at + 3];
+    found.push({ point: said.faults[at], kind, isDoubtful, broke: isOfOther ? other : one.side, times });
   }
   return found;
 }
@@ -88,10 +88,16 @@ function seriesOf(said, one) {
 const counted = (number, word) => `${grouped(number)} ${word}${number === 1 ? "" : "s"}`;
 const inAll = marks => marks.reduce((sum, { times }) => sum + times, 0);
 
+// How many faults, of which so many can be doubted.
+function faultsWords(faults, doubtful) {
+  if (faults === doubtful) return counted(faults, "doubtful fault");
+  return counted(faults, "fault") + (doubtful ? ` (${grouped(doubtful)} of them doubtful)` : "");
+}
+
 // In words, what went wrong with a window.
 function troubleOf(one) {
-  const stalls = stallsOf(charts, one), faults = inAll(faultsOf(charts, one)), words = [];
-  if (faults) words.push(counted(faults, "fault"));
+  const stalls = stallsOf(charts, one), faults = faultsOf(charts, one), words = [];
+  if (faults.length) words.push(faultsWords(inAll(faults), inAll(faults.filter(fault => fault.isDoubtful))));
   if (stalls.length) {
     const longest = one.longest ? `, the longest ${duration(one.longest)}` : " that took no time";
     words.push(counted(inAll(stalls), "stall") + longest);

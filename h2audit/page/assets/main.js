@@ -63,12 +63,14 @@ function faultLines(one) {
   const others = charts.windows.filter(other => other.connection === one.connection && other.faults && other !== one);
   for (const other of [one, ...others]) {
     const { frames, nanos, faults } = seriesOf(charts, other);
-    faults.forEach(({ point }) => places.push({ frame: frames[point], nanos: nanos[point] }));
+    faults.forEach(({ point, isDoubtful }) =>
+      places.push({ frame: frames[point], nanos: nanos[point], isDoubtful }));
     if (places.length >= MOST_LINES) break;
   }
   const { elsewhere, unit } = charts;
-  for (let at = 0; at < elsewhere.length; at += 3) {
-    if (elsewhere[at] === one.place) places.push({ frame: elsewhere[at + 1], nanos: elsewhere[at + 2] * unit });
+  for (let at = 0; at < elsewhere.length; at += 4) {
+    const [place, frame, time, isDoubtful] = elsewhere.slice(at, at + 4);
+    if (place === one.place) places.push({ frame, nanos: time * unit, isDoubtful });
   }
   return places.slice(0, MOST_LINES);
 }

@@ -1,5 +1,5 @@
-// The waterfall: a row for each request, drawn as it comes into sight. Its scale, axis and zoom are those of the curve
-// above it, which dygraphs draws.
+// The waterfall: a row for each request, drawn as it comes into sight, and as high as its sentences. Its scale, axis and
+// zoom are those of the curve above it, which dygraphs draws.
 
 const AHEAD = 6, MOST_POINTS = 1500, PRINTED_ROWS = 40, NARROW = 700;
 const SVG = "http://www.w3.org/2000/svg";
@@ -17,7 +17,7 @@ class Waterfall {
   constructor(said) {
     const requests = said.requests.map(one => ({ ...one, connection: said.connections[one.of] }));
     const connections = said.connections.map(one => ({ ...one, isConnection: true, connection: one }));
-    Object.assign(this, { kinds: said.kinds, requests, connections, listed: [], chosen: 0, made: new Map() });
+    Object.assign(this, { kinds: said.kinds, requests, connections, listed: [], tops: [0], chosen: 0, made: new Map() });
     this.box = field("rows");
     this.space = field("space");
     this.box.addEventListener("scroll", () => this.later());
@@ -57,8 +57,32 @@ class Waterfall {
     field("rows-found").textContent = `${grouped(found.length)} of ${counted(this.requests.length, "request")}`;
     this.clear();
     this.overview(found);
+    this.measure();
     this.box.scrollTop = 0;
     this.show();
+  }
+
+  // Where each row begins: they stand below each other once, out of sight, as they will be seen.
+  measure() {
+    const ruler = make("div", "", { className: "ruler" }), area = this.graph.getArea();
+    ruler.append(...this.listed.map(one => this.words(one, area)));
+    this.space.replaceChildren(ruler);
+    const heights = [...ruler.children].map(row => row.getBoundingClientRect().height);
+    ruler.remove();
+    let top = 0;
+    this.tops = [0, ...heights.map(height => top += height)];
+    this.space.style.height = `${top}px`;
+  }
+
+  // The last row that begins at a height or above it.
+  rowAt(height) {
+    let first = 0, last = Math.max(this.listed.length - 1, 0);
+    while (first < last) {
+      const middle = Math.ceil((first + last) / 2);
+      if (this.tops[middle] <= height) first = middle;
+      else last = middle - 1;
+    }
+    return first;
   }
 
   // The curve of how many requests were under way: what dygraphs zooms, and what the bars are measured by.
@@ -69,6 +93,7 @@ class Waterfall {
     const label = `${this.unit} since ${from ?? "the SYN of the connection"}`;
     this.wide = this.box.clientWidth;
     this.isNarrow = this.wide < NARROW;
+    this.box.classList.toggle("narrow", this.isNarrow);
     this.graph?.destroy();
     this.graph = new Dygraph(field("overview"), underWay(found, one => this.begin(one), end, this.size), {
       labels: [label, "under way"], colors: [colour.line], stepPlot: true, fillGraph: true, xlabel: label,
@@ -77,13 +102,11 @@ class Waterfall {
       axes: {
         x: { axisLabelFormatter: grouped, axisLabelWidth: 90 },
         y: { axisLabelFormatter: value => Number.isInteger(value) ? grouped(value) : "", drawGrid: false,
-          axisLabelWidth: this.isNarrow ? 40 : Math.round(this.wide * 0.36) },
+          axisLabelWidth: this.isNarrow ? 40 : Math.round(this.wide * 0.38) },
       },
       drawCallback: (graph, isFirst) => { if (!isFirst) this.redraw(); },
     });
     this.whole = this.graph.xAxisRange();
-    this.height = this.isNarrow ? 72 : 46;
-    this.space.style.height = `${this.listed.length * this.height}px`;
   }
 
   zoom(how) {
@@ -121,8 +144,8 @@ class Waterfall {
   // Makes the rows that are in sight or near, and takes the others away, but for one that has the focus.
   show() {
     const { scrollTop, clientHeight } = this.box;
-    const first = Math.max(0, Math.floor(scrollTop / this.height) - AHEAD);
-    const last = Math.min(this.listed.length, Math.ceil((scrollTop + clientHeight) / this.height) + AHEAD);
+    const first = Math.max(0, this.rowAt(scrollTop) - AHEAD);
+    const last = Math.min(this.listed.length, this.rowAt(scrollTop + clientHeight) + 1 + AHEAD);
     this.made.forEach((row, at) => {
       if ((at < first || at >= last) && !row.contains(document.activeElement)) {
         row.remove();
@@ -134,25 +157,32 @@ class Waterfall {
 
   row(at) {
     if (this.made.has(at)) return this.made.get(at);
-    const one = this.listed[at];
-    const row = make("div", "", { role: "listitem", className: one.isConnection ? "row connection-row" : "row" });
+    const one = this.listed[at], area = this.graph.getArea(), row = this.words(one, area);
     row.dataset.at = at;
+    row.setAttribute("role", "listitem");
     row.setAttribute("aria-posinset", at + 1);
     row.setAttribute("aria-setsize", this.listed.length);
-    row.style.top = `${at * this.height}px`;
-    row.style.height = `${this.height}px`;
-    const area = this.graph.getArea();
-    const button = make("button", "", { type: "button", ariaLabel: wordsOfRow(one) });
+    row.style.top = `${this.tops[at]}px`;
+    const button = row.querySelector("button");
+    button.ariaLabel = wordsOfRow(one);
     button.tabIndex = at === this.chosen ? 0 : -1;
-    button.style.width = `${this.isNarrow ? this.box.clientWidth : area.x - 6}px`;
-    button.append(make("span", titleOf(one), { className: "title" }));
-    button.append(make("span", underTitle(one), { className: "facts" }));
-    const drawing = svg("svg", { width: Math.max(area.w, 1), height: 26, "aria-hidden": "true" }, row);
-    drawing.style.left = `${area.x}px`;
-    this.bars(drawing, one, area);
-    row.prepend(button);
+    this.bars(row.querySelector("svg"), one, area);
     this.space.append(row);
     this.made.set(at, row);
+    return row;
+  }
+
+  // A row without its bars: what it is called, the place of the bars, and what is said of it, which its button's name
+  // says too.
+  words(one, area) {
+    const row = make("div", "", { className: one.isConnection ? "row connection-row" : "row" });
+    const button = make("button", "", { type: "button" });
+    button.style.width = this.isNarrow ? "100%" : `${area.x - 6}px`;
+    button.append(make("span", titleOf(one), { className: "title" }), make("span", factsOf(one), { className: "facts" }));
+    row.append(button);
+    const drawing = svg("svg", { width: Math.max(area.w, 1), height: 26, "aria-hidden": "true" }, row);
+    drawing.style[this.isNarrow ? "marginLeft" : "left"] = `${area.x}px`;
+    for (const text of sentencesOf(one)) row.append(make("p", text, { ariaHidden: "true" }));
     return row;
   }
 
@@ -169,7 +199,7 @@ class Waterfall {
       }
     });
     const start = one.isConnection ? 0 : one.begin;
-    for (const [nanos] of one.marks) cut(drawing, x(begin + nanos - start));
+    for (const [nanos, , isCertain] of one.marks) cut(drawing, x(begin + nanos - start), isCertain);
     if (one.isConnection) return;
     if (one.hung) svg("path", { class: "mark hung", d: `M${end - 5} 7L${end + 5} 13L${end - 5} 19Z` }, drawing);
     else if (one.how === "RST_STREAM") svg("path", { class: "mark reset", d: `M${end} 7l6 6l-6 6l-6 -6Z` }, drawing);
@@ -188,9 +218,9 @@ class Waterfall {
     const before = this.made.get(this.chosen);
     if (before) before.querySelector("button").tabIndex = -1;
     this.chosen = at;
-    const top = at * this.height, { scrollTop, clientHeight } = this.box;
-    if (top < scrollTop) this.box.scrollTop = top;
-    if (top + this.height > scrollTop + clientHeight) this.box.scrollTop = top + this.height - clientHeight;
+    const { scrollTop, clientHeight } = this.box, [top, end] = this.tops.slice(at, at + 2);
+    if (end > scrollTop + clientHeight) this.box.scrollTop = end - clientHeight;
+    if (top < this.box.scrollTop) this.box.scrollTop = top;
     const button = this.row(at).querySelector("button");
     button.tabIndex = 0;
     button.focus({ preventScroll: true });
@@ -216,8 +246,8 @@ class Waterfall {
   }
 }
 
-function cut(drawing, x) {
-  svg("path", { class: "mark fault", d: `M${x - 5} 8L${x + 5} 18M${x + 5} 8L${x - 5} 18` }, drawing);
+function cut(drawing, x, isCertain) {
+  svg("path", { class: isCertain ? "mark fault" : "mark doubtful", d: `M${x - 5} 8L${x + 5} 18M${x + 5} 8L${x - 5} 18` }, drawing);
 }
 
 // Spans stand one after the other: durations and kinds.
@@ -270,21 +300,26 @@ function underWay(requests, beginOf, end, size) {
 
 const titleOf = one => one.isConnection ? `Connection ${one.number}` : one.name;
 
-function underTitle(one) {
+function factsOf(one) {
   if (one.isConnection) return `${one.client} to ${one.server}`;
-  const words = [`stream ${one.stream}`, one.status ?? "no status", duration(rounded(one.nanos))];
-  return `${words.join(" · ")} · ${one.text}`;
+  const words = [`stream ${one.stream}`, one.status, duration(rounded(one.nanos))];
+  return words.concat(one.ask ? `ask the ${one.ask}` : []).join(" · ");
 }
+
+// What held it back, and its whole life where that has several parts.
+const sentencesOf = one => one.isConnection ? [] : [one.text, one.life].filter(text => text);
 
 // Four digits are enough for a row.
 const rounded = nanos => Number(nanos.toPrecision(4));
 
 function wordsOfRow(one) {
-  const faults = one.marks.length ? `, ${counted(one.marks.length, "fault")}` : "";
+  const doubtful = one.marks.filter(([, , isCertain]) => !isCertain).length;
+  const faults = one.marks.length ? `, ${faultsWords(one.marks.length, doubtful)}` : "";
   if (one.isConnection) {
-    return `Connection ${one.number}, ${one.client} to ${one.server}, ${duration(rounded(one.nanos))}${faults}`;
+    return `Connection ${one.number}, ${factsOf(one)}, ${duration(rounded(one.nanos))}${faults}`;
   }
-  return `${one.name}, connection ${one.connection.number}, ${underTitle(one)}${one.hung ? ", hung" : ""}${faults}`;
+  const words = [factsOf(one), ...sentencesOf(one)].join(" · ");
+  return `${one.name}, connection ${one.connection.number}, ${words}${one.hung ? ", hung" : ""}${faults}`;
 }
 
 const STREAM_STALL = 2, CONNECTION_STALL = 3;
@@ -310,14 +345,14 @@ function openRequest(one) {
   const close = make("button", "Close", { type: "button", onclick: () => leaveRequest() });
   const name = one.isConnection ? titleOf(one) : `${one.name}, stream ${stream} of connection ${connection}`;
   const head = make("h3", name, { tabIndex: -1 });
-  const words = one.isConnection ? `Client ${one.client}, server ${one.server}.`
-    : `${one.text[0].toUpperCase()}${one.text.slice(1)}. Opened in ${one.packet}.`;
+  const words = one.isConnection ? [`Client ${one.client}, server ${one.server}.`]
+    : [...sentencesOf(one).map(asSentence), one.ask ? `Ask the ${one.ask}.` : "", `Opened in ${one.packet}.`];
   const charted = charts.windows.filter(window => window.connection === connection
     && (window.stream === stream || (window.stream === 0 && (one.isConnection || window.stalls || window.faults))));
   const figures = charted.map(window => figureOf(window, "request-"));
   const beside = make("div", "", { className: "beside" });
   beside.append(make("div"), make("div"));
-  beside.firstChild.append(make("p", `${words} Ended by ${one.ended}.`), findingsOf(connection, stream));
+  beside.firstChild.append(make("p", [...words, asSentence(one.ended)].join(" ")), findingsOf(connection, stream));
   beside.lastChild.append(...figures);
   panel.append(head, close, beside);
   panel.hidden = false;
@@ -325,6 +360,8 @@ function openRequest(one) {
   head.focus({ preventScroll: true });
   panel.scrollIntoView({ block: "nearest" });
 }
+
+const asSentence = text => `${text[0].toUpperCase()}${text.slice(1)}.`;
 
 // Back to the row from which it was opened.
 function leaveRequest() {
