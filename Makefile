@@ -16,23 +16,27 @@ PYTHON ?= /usr/bin/python3
 PYTHON_PROGRAMS = h2audit-fleet h2audit-page h2audit-plot
 PYTHON_PACKAGES = h2audit $(addprefix h2audit/,fleet page page/assets plot report)
 BESIDE = $(RUST_PROGRAMS) $(PYTHON_PROGRAMS) h2audit-split
-FIRST = examples/negative_window_tomcat.pcap examples/stream_overrun_go.pcap
+# What a build without proof is tried on, and where it is.
+TRIED = examples/paused_stream_node.pcap
+UNPROVED = out/unproved
 # The parts of "make check", the longest first.
 CHECKS = tests split companions sources layout believed storeys crates rules
 RUST_SOURCES := h2audit/report/kinds.txt $(shell find companions -name target -prune -o -type f -print)
 SOURCES := crates.txt $(shell find crates -name out -prune -o -name '*.rt' -print -o -name '*.antt' -print)
 
-.PHONY: run deps build companions install deb version check $(CHECKS:%=check-%) test test-tools bench \
+.PHONY: try deps build companions install deb version check $(CHECKS:%=check-%) test test-tools bench \
 	believed pictures
 
-# Shows two reports at once, from a build without proof: of a connection with stalls and a window below zero, and of one
-# with an overrun, whose status of 1 is the program's answer.
-run:
-	@echo 'A build without proof: about a minute on four idle cores.'
-	@captures=$$(mktemp -d) && trap 'rm -r "$$captures"' EXIT && cp $(FIRST) "$$captures" && \
-		cd crates/h2audit_cli && rt try --cases "$$captures" -- {}
-	@echo 'Nothing of this build was proved. "make build" proves the program and builds it (20 to 30 minutes on four processors),'
-	@echo 'and "make install" puts it in place as h2audit.'
+# Builds all programs without proof, and shows the answer that the README begins with.
+try:
+	@$(MAKE) --no-print-directory --jobs=2 companions $(UNPROVED)/h2audit
+	@H2AUDIT=$(UNPROVED)/h2audit $(RUST_BUILT)/h2audit-why --width 100 $(TRIED)
+	@echo
+	@echo 'Nothing of this h2audit was proved. It is $(UNPROVED)/h2audit; the programs in Rust beside it are in'
+	@echo '$(RUST_BUILT), and run it where the variable H2AUDIT names it. "make build" proves it, and builds it.'
+
+$(UNPROVED)/h2audit: $(SOURCES) tools/unproved.py
+	@$(PYTHON) -m tools.unproved $(UNPROVED) h2audit
 
 # Installs the Debian packages that the programs in Rust and the tests need, as root.
 deps:
