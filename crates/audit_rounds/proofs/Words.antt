@@ -74,7 +74,7 @@ pub use Rattle.audit_terms.specs.declared.{connection_state.ConnectionState.Conn
 pub use Rattle.audit_terms.specs.declared.{frames.Body.Body, frames.Body.TheVariants.Unreadable, frames.Frame.Frame}
 pub use Rattle.audit_terms.specs.declared.{items.Change.Change, items.Item.Item, items.Step.Step, sides.Sides.Sides}
 pub use Rattle.audit_terms.specs.declared.stream_state.Stream.{Stream}
-pub use Rattle.block_scan.specs.code.List.{items_in_blocks}
+pub use Rattle.conn_scan.specs.code.List.{items_in_blocks}
 pub use Rattle.conn_scan.specs.code.Block.{BlockFits}
 pub use Rattle.conn_scan.specs.code.ConnSum.{conn_sum_of}
 pub use Rattle.conn_scan.specs.code.Items.{items_in, IsBlock, NeverFallFrom, is_marked, item_with, items_with}

@@ -13,8 +13,7 @@ ghost use Rattle.audit_rounds.specs.code.Plans.{IsPlan, shown_from};
 
 use crate::connection_blocks::ConnectionBlock;
 use audit_terms::ConnectionState;
-use block_scan::Summary;
-use conn_scan::{Block, ConnSum, clear};
+use conn_scan::{Block, ConnSum, Summary, clear};
 use std::alloc::{AllocError, Global};
 
 /// A block with the connection before it.

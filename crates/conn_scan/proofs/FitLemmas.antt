@@ -1,6 +1,6 @@
 -- Where the items of all blocks fit, each block fits the connection before it.
 use Rattle.conn_scan.proofs.Terms.{[], ◌∷◌, connection_after_all, first_fit, rest_fit}
-use Rattle.block_scan.specs.code.List.{items_in_blocks}
+use Rattle.conn_scan.specs.code.List.{items_in_blocks}
 use Rattle.conn_scan.specs.laws.Blocks.{BlocksFit}
 
 pub blocks_fit : BlocksFit

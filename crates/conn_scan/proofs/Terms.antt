@@ -26,8 +26,8 @@ pub use Rattle.audit_terms.specs.declared.items.Change.{Change}
 pub use Rattle.audit_terms.specs.declared.items.Item.{Item}
 pub use Rattle.audit_terms.specs.declared.sides.Side.{Side}
 pub use Rattle.audit_terms.specs.declared.sides.Side.TheVariants.{Client, Server}
-pub use Rattle.block_scan.specs.code.Shown.{summary-shown}
-pub use Rattle.block_scan.specs.code.Summary.{summary_of}
+pub use Rattle.conn_scan.specs.code.Shown.{summary-shown}
+pub use Rattle.conn_scan.specs.code.Summary.{summary_of}
 pub use Rattle.conn_scan.specs.code.Block.{BlockFits, ItemsFit, MovesLittle}
 pub use Rattle.conn_scan.specs.code.Clear.{connections, grants_something, is_clear, is_usable, keeps_credit}
 pub use Rattle.conn_scan.specs.code.Clear.{openings_rise, promises_allowed, promises_rise}

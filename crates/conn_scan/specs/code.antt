@@ -1,3 +1,6 @@
+pub mod List
+pub mod Summary
+pub mod Shown
 pub mod Credit
 pub mod Rising
 pub mod Ids

@@ -1,7 +1,7 @@
 ghost use Rattle.std.specs.Prelude.{◌≡◌, ◌+ℤ◌, ◌^◌};
 ghost use Rattle.audit_terms.specs.code.Room.{HasRoom};
 
-use block_scan::Summary;
+use crate::summaries::Summary;
 
 /// What a list of signed changes does to the credit of a window (RFC 9113, 6.9). Without one, all is 0.
 #[derive(Clone, Copy)]

@@ -1,5 +1,11 @@
 //! What a block of frames does to a connection (RFC 9113, 4.2, 5.1.1, 6.9), in a form that can be joined.
 //!
+//! - A [`Summary`] says what some items do to a state, in a form that can be joined: blocks of a list are summed apart,
+//!   by workers that draw them, and a state is then moved past whole blocks. Each instance proves the laws of
+//!   `specs/code/Summary.antt` as a ghost member: joining has a unit and is associative, the summary of two lists is
+//!   their summaries joined, and advancing by no item, by one and twice is what the steps do. So a state carried past
+//!   blocks is what the plain fold has there. The laws hold for states and items that fit, as the instance says:
+//!   credits of 64 bits add up only within bounds.
 //! - [`Credit`] is what changes do to one window. It has the greatest and the least prefix sum beside the sum: by the
 //!   sum alone, a block that falls below 0 and rises again would look clear.
 //! - [`Rising`] is what is known of the streams that items open, [`Latest`] are the settings that they bring and the
@@ -7,7 +13,7 @@
 //! - [`Block`] is a range of frames with the numbers of those that open streams and the changes of settings: its items
 //!   are walked one by one, and no list of them is made. A number counts as an opening on HEADERS alone, and numbers of
 //!   no frame are skipped. [`numbers_not_below`] and [`changes_not_below`] are what a later block needs of both.
-//! - [`ConnSum`] is all of these, a lawful summary of `block_scan` whose steps are those of the connection, and
+//! - [`ConnSum`] is all of these, a lawful [`Summary`] whose steps are those of the connection, and
 //!   [`block_sum`] that of a block. It counts each item in place, and joins no summary of one item: most frames move a
 //!   credit or nothing.
 //! - [`block_findings`] is what a block shows, from the connection before it, up to the place at which its look ends
@@ -33,6 +39,7 @@ mod ids;
 mod latest;
 pub mod laws;
 mod rising;
+mod summaries;
 mod sums;
 pub mod worked_examples;
 
@@ -42,4 +49,5 @@ pub use cleared::clear;
 pub use credits::Credit;
 pub use latest::Latest;
 pub use rising::Rising;
+pub use summaries::Summary;
 pub use sums::{ConnSum, block_sum};

@@ -15,8 +15,8 @@ use crate::credits::Credit;
 use crate::ids::{opened_id, promise_of};
 use crate::latest::Latest;
 use crate::rising::Rising;
+use crate::summaries::Summary;
 use audit_terms::{ConnectionState, Frame, Item, Side, Sides};
-use block_scan::Summary;
 
 /// All that a list of items does to its connection.
 #[derive(Clone, Copy)]

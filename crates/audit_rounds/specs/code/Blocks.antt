@@ -6,7 +6,7 @@ use Rattle.audit_terms.specs.declared.connection_state.ConnectionState.{Connecti
 use Rattle.audit_terms.specs.declared.items.Item.{Item}
 use Rattle.audit_terms.specs.Connection.{connection_start}
 use Rattle.audit_terms.specs.code.runs.Blocks.{connection_after_all}
-use Rattle.block_scan.specs.code.List.{items_in_blocks}
+use Rattle.conn_scan.specs.code.List.{items_in_blocks}
 use Rattle.conn_scan.specs.declared.block_items.Block.{Block}
 use Rattle.conn_scan.specs.code.Items.{items_in, IsBlock}
 use Rattle.conn_scan.specs.code.Block.{MovesLittle, BlockFits}

@@ -13,9 +13,9 @@ use Rattle.audit_terms.specs.Sides.{side_of, each_side}
 use Rattle.audit_terms.specs.Frame.{promised_in}
 use Rattle.audit_terms.specs.Connection.{connection_after, is_opened_by_headers, is_even_promise}
 use Rattle.audit_terms.specs.code.runs.Blocks.{connection_after_all}
-use Rattle.block_scan.specs.code.Summary.{SummaryLaws}
-use Rattle.block_scan.specs.code.List.{after_all}
-use Rattle.block_scan.specs.code.Shown.{Shows, lawful}
+use Rattle.conn_scan.specs.code.Summary.{SummaryLaws}
+use Rattle.conn_scan.specs.code.List.{after_all}
+use Rattle.conn_scan.specs.code.Shown.{Shows, lawful}
 use Rattle.conn_scan.specs.code.Credit.{credit_change, credit_of, credit_join, credit_met, total}
 use Rattle.conn_scan.specs.code.Rising.{greatest_of, present, rising_of, rising_join, rising_met}
 use Rattle.conn_scan.specs.code.Ids.{opened_id, promised_id}

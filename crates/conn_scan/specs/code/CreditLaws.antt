@@ -7,9 +7,9 @@ use Rattle.std.specs.Prelude.{false, if◌then◌else◌}
 use Rattle.std.specs.Int.{int_max, int_min}
 use Rattle.std.proofs.lemmas.Int.{ints, clamps}
 use Rattle.audit_terms.specs.code.Room.{HasRoom}
-use Rattle.block_scan.specs.code.Summary.{SummaryLaws, summary_of}
-use Rattle.block_scan.specs.code.List.{after_all}
-use Rattle.block_scan.specs.code.Shown.{Shows, lawful, summary-shown}
+use Rattle.conn_scan.specs.code.Summary.{SummaryLaws, summary_of}
+use Rattle.conn_scan.specs.code.List.{after_all}
+use Rattle.conn_scan.specs.code.Shown.{Shows, lawful, summary-shown}
 use Rattle.conn_scan.specs.declared.credits.Credit.{Credit}
 use Rattle.conn_scan.specs.code.Credit.{total, high, low, credit_of, no_change, one_change, credit_join, credit_met}
 use Rattle.conn_scan.specs.code.Credit.{credit_advance, AreSmall, ChangesFit}

@@ -1,7 +1,7 @@
 -- A worked example: a window of 65,535 bytes is used up, 1 byte is granted, 1 byte is sent.
 use Rattle.std.specs.Prelude.{◌≡◌, ℕ, ℤ, pos, neg_ℤ, ◌+ℤ◌, List, [], ◌∷◌, ◌++◌, length, map, take}
-use Rattle.block_scan.specs.code.Summary.{summary_of}
-use Rattle.block_scan.specs.code.List.{after_all}
+use Rattle.conn_scan.specs.code.Summary.{summary_of}
+use Rattle.conn_scan.specs.code.List.{after_all}
 use Rattle.conn_scan.specs.declared.credits.Credit.{Credit}
 use Rattle.conn_scan.specs.code.Credit.{total, high, low, no_change, one_change, credit_join, credit_advance}
 

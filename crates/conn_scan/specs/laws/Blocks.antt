@@ -3,7 +3,7 @@ use Rattle.std.specs.Prelude.{List}
 use Rattle.std.specs.List.{AllByRecursion, AllZip}
 use Rattle.audit_terms.specs.declared.connection_state.ConnectionState.{ConnectionState}
 use Rattle.audit_terms.specs.declared.items.Item.{Item}
-use Rattle.block_scan.specs.code.List.{items_in_blocks}
+use Rattle.conn_scan.specs.code.List.{items_in_blocks}
 use Rattle.conn_scan.specs.code.Block.{BlockFits, MovesLittle, connections_before}
 
 -- where the items of all blocks fit the first connection, each block fits the connection before it

@@ -1,5 +1,5 @@
 use Rattle.audit_rounds.proofs.Words.{sym, ap, ◌∙◌, append-nil, Vec, Global, items_in, ReadyBlock}
-use Rattle.block_scan.specs.code.Shown.{summary-shown}
+use Rattle.conn_scan.specs.code.Shown.{summary-shown}
 use Rattle.conn_scan.specs.code.ConnSumLaws.{conn_shows}
 use Rattle.std.proofs.lemmas.Bool.{OnFalse_at}
 use Rattle.audit_rounds.proofs.Plans.{here-fits, here-sum, no-job, own-job, plan-next}

@@ -1,8 +1,8 @@
 -- A short way to the laws of a summary: a closed form of the summary of each list, which `join` keeps and which
 -- moves a state as the steps do.
 use Rattle.std.proofs.Common.{◌≡◌, List, [], ◌∷◌, ◌++◌, refl, sym, ap, ◌∙◌, append_assoc, append-nil}
-use Rattle.block_scan.specs.code.Summary.{SummaryLaws, summary_of}
-use Rattle.block_scan.specs.code.List.{after_all}
+use Rattle.conn_scan.specs.code.Summary.{SummaryLaws, summary_of}
+use Rattle.conn_scan.specs.code.List.{after_all}
 
 pub after_all-append : {State Item : Type 0} (step : State → Item → State) (s : State) (a b : List Item)
     → after_all step s (a ++ b) ≡ after_all step (after_all step s a) b

@@ -1,6 +1,6 @@
 -- What a summary of items is, and the laws that let blocks be summed apart and joined in any grouping.
 use Rattle.std.specs.Prelude.{◌≡◌, List, [], ◌∷◌, ◌++◌}
-use Rattle.block_scan.specs.code.List.{after_all}
+use Rattle.conn_scan.specs.code.List.{after_all}
 
 -- the summary of some items: each item's, joined; `empty` of no items
 abbrev pub summary_of : {Sum Item : Type 0} → (empty : Sum) → (of : Item → Sum) → (join : Sum → Sum → Sum)

@@ -1,5 +1,5 @@
 ghost use Rattle.std.specs.Prelude.{◌≡◌, List, [], ◌++◌};
-ghost use Rattle.block_scan.specs.code.Summary.{SummaryLaws, summary_of};
+ghost use Rattle.conn_scan.specs.code.Summary.{SummaryLaws, summary_of};
 
 /// What some items do to a state, in a form that can be joined: blocks of a list are summed apart, in any order and on
 /// any thread, and a state is then moved past whole blocks.
