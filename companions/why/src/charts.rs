@@ -4,7 +4,7 @@ use std::collections::BTreeMap;
 use std::io::{self, Write};
 
 use explain::answer::{ChartsSaid, ConnectionSaid, Files, Nanos};
-use explain::words::reason_words;
+use explain::words::{count, reason_words};
 use explain::{ReportSaid, ReportedConnection};
 use reports::{section_of, what_happened, who_is_to_blame, Capture, Finding, Flow, Form, Kind, Note, Pairing, Side};
 
@@ -194,7 +194,7 @@ fn not_audited(json: &mut Json<'_>, connections: &[ReportedConnection]) {
         json.object(|json| {
             json.name("reason").text(reason);
             json.name("count").number(*number);
-            json.name("text").text(&reason_words(known, *number));
+            json.name("text").text(&reason_words(known, &count(*number, "connection")));
         });
     });
 }
