@@ -65,7 +65,7 @@ class Talk(Timed):
         self.now = self.begin + round(millis * 1000)
         return self
 
-    def segment(  # type: ignore[override]
+    def segment(
         self,
         source: Endpoint,
         target: Endpoint,
