@@ -155,7 +155,9 @@ class Near(OnCaptures):
 class Turns(Near):
     """Answers that come behind others, over a way of 40 ms."""
 
-    def downloads(self, behind: int, *last: bytes, newer: bool = False, round_trip: float = 40) -> Answered:
+    def downloads(
+        self, behind: int, *last: bytes, newer: bool = False, round_trip: float = 40, size: int = 4000
+    ) -> Answered:
         """A download of 60 pieces, 10 ms from one to the next; so many pieces before its end another answer."""
         first, other = (3, 1) if newer else (1, 3)
         talk = Talk().open(round_trip)
@@ -165,6 +167,9 @@ class Turns(Near):
         for at in range(60):
             if at >= 4:
                 talk.bare(112 + 10 * at, "C", acknowledged=sent[at - 4])
+            # No packet has more bytes than this.
+            for _ in range(size // 60_000):
+                talk.say(112 + 10 * at, "S", data(first, 60_000))
             talk.say(112 + 10 * at, "S", data(first, 4000, END * (at == 59)), *(last if at == 59 - behind else ()))
             sent.append(talk.next["S"])
         if not last:
@@ -182,15 +187,21 @@ class Turns(Near):
         self.assertIn("the server sent all the time: 591 ms at 406 kB/s, shared by 2 streams", found.text)
         self.assertEqual(found.named(1), ("path", None, None))
 
+    def test_beside(self) -> None:
+        """So did one that stood in a queue with a download that goes on, and one behind the end of a large one."""
+        for found in (self.downloads(10, answer(3, 100)), self.downloads(0, answer(3, 100), size=120_000)):
+            self.assertEqual(found.named(3), ("path", None, None))
+            self.assertNotIn("idle", found.shares(3))
+
     def test_no_turn(self) -> None:
-        """One in the midst of the other, one in a packet of its own, one that was asked for before the other, and one
-        that is near waited for the server.
+        """One in a packet of its own, one that was asked for before the other, one that is near, and one behind more
+        than a socket holds waited for the server.
         """
         for found, stream in (
-            (self.downloads(10, answer(3, 100)), 3),
             (self.downloads(0), 3),
             (self.downloads(0, answer(1, 100), newer=True), 1),
             (self.downloads(0, answer(3, 100), round_trip=0.5), 3),
+            (self.downloads(10, answer(3, 100), size=120_000), 3),
         ):
             self.assertEqual(found.named(stream), ("application", "before", "server"))
             self.assertNotIn("others", found.shares(stream))
