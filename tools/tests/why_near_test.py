@@ -193,6 +193,21 @@ class Turns(Near):
             self.assertEqual(found.named(3), ("path", None, None))
             self.assertNotIn("idle", found.shares(3))
 
+    def test_behind_one_that_waited(self) -> None:
+        """So did one that begins in the packet in which the headers of another one end that did."""
+        headers = frame(1, 4, 3, OK + bytes([0x0F, 0x01, 100]) + bytes(100))
+        for rest, cause in ((headers[20:] + answer(5, 100), "path"), (headers[20:], "application")):
+            talk = Talk().open(40)
+            talk.say(110, "C", get(1), get(3), get(5), grant(0, WIDE), grant(1, WIDE))
+            talk.say(111, "S", answer(1, 4000, 0))
+            for at in range(30):
+                talk.say(121 + 10 * at, "S", data(1, 4000, 0), headers[:20] if at == 29 else b"")
+            talk.say(421, "S", rest)
+            talk.say(422, "S", answer(5, 100) if cause == "application" else b"")
+            talk.bare(460, "C", FIN)
+            found = self.answered(talk)
+            self.assertEqual((found.named(3)[0], found.named(5)[0]), ("path", cause))
+
     def test_no_turn(self) -> None:
         """One in a packet of its own, one that was asked for before the other, one that is near, and one behind more
         than a socket holds waited for the server.

@@ -106,7 +106,7 @@ pub struct Total {
     pub begun: u32,
     pub ended: u32,
     /// The stream that was opened last of those that have begun; and the last packet with content of one that had begun
-    /// before it.
+    /// before it, or with the end of what stood behind that.
     pub newest: u32,
     pub turn: Option<Nanos>,
 }

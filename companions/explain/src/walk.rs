@@ -437,7 +437,8 @@ fn met(
     let mut holding = about.holding(side, stream.number);
     if stream.sides[side].first.is_none() {
         match about.is_far() && totals[side].is_turn(stream, side, cut.times) {
-            true => holding.turn = about.courses[side].sends_since,
+            // What begins in the packet in which this frame ends stood behind it.
+            true => (holding.turn, totals[side].turn) = (about.courses[side].sends_since, Some(at.time)),
             false => stream.sides[side].begin_beside(&totals[side]),
         }
         totals[side].newest = totals[side].newest.max(stream.order);
