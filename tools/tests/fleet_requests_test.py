@@ -191,7 +191,7 @@ class Tables(unittest.TestCase):
                     numbers[table] += len(found)
                 (row,) = base.ask("SELECT requests FROM captures WHERE path = ?", word_of(path))
                 self.assertEqual(row["requests"], len(wanted["requests"]) if path in said else None)
-            self.assertTrue(all(number > 100 for number in numbers.values()), numbers)
+            self.assertTrue(all(number > 50 for number in numbers.values()), numbers)
 
     def test_kinds(self) -> None:
         """What is compared has each cause, each certainty, each end, and names that are escaped."""

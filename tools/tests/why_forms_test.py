@@ -100,7 +100,9 @@ class Forms(OnCaptures):
     def rows(self, found: Json, said: Named, words: list[str]) -> None:
         lines = ran("--rows", "-", *words).stdout.decode().splitlines()[1:]
         all_rows = [json.loads(line) for line in lines]
-        self.assertEqual([row[1:] for row in all_rows if row[0] == "reasons"], list(map(list, unread(found))))
+        self.assertEqual(
+            [row[1:] for row in all_rows if row[0] == "reasons"], [[number, why] for number, why in unread(found)]
+        )
         rows = [row for row in all_rows if row[0] == "requests"]
         self.assertEqual({(row[1], row[2]) for row in rows}, set(said))
         for _, connection, *values in rows:

@@ -65,7 +65,7 @@ class Talk(Timed):
         self.now = self.begin + round(millis * 1000)
         return self
 
-    def segment(  # type: ignore[override]
+    def segment(
         self,
         source: Endpoint,
         target: Endpoint,
@@ -155,7 +155,9 @@ class Near(OnCaptures):
 class Turns(Near):
     """Answers that come behind others, over a way of 40 ms."""
 
-    def downloads(self, behind: int, *last: bytes, newer: bool = False, round_trip: float = 40) -> Answered:
+    def downloads(
+        self, behind: int, *last: bytes, newer: bool = False, round_trip: float = 40, size: int = 4000
+    ) -> Answered:
         """A download of 60 pieces, 10 ms from one to the next; so many pieces before its end another answer."""
         first, other = (3, 1) if newer else (1, 3)
         talk = Talk().open(round_trip)
@@ -165,6 +167,9 @@ class Turns(Near):
         for at in range(60):
             if at >= 4:
                 talk.bare(112 + 10 * at, "C", acknowledged=sent[at - 4])
+            # No packet has more bytes than this.
+            for _ in range(size // 60_000):
+                talk.say(112 + 10 * at, "S", data(first, 60_000))
             talk.say(112 + 10 * at, "S", data(first, 4000, END * (at == 59)), *(last if at == 59 - behind else ()))
             sent.append(talk.next["S"])
         if not last:
@@ -182,15 +187,36 @@ class Turns(Near):
         self.assertIn("the server sent all the time: 591 ms at 406 kB/s, shared by 2 streams", found.text)
         self.assertEqual(found.named(1), ("path", None, None))
 
+    def test_beside(self) -> None:
+        """So did one that stood in a queue with a download that goes on, and one behind the end of a large one."""
+        for found in (self.downloads(10, answer(3, 100)), self.downloads(0, answer(3, 100), size=120_000)):
+            self.assertEqual(found.named(3), ("path", None, None))
+            self.assertNotIn("idle", found.shares(3))
+
+    def test_behind_one_that_waited(self) -> None:
+        """So did one that begins in the packet in which the headers of another one end that did."""
+        headers = frame(1, 4, 3, OK + bytes([0x0F, 0x01, 100]) + bytes(100))
+        for rest, cause in ((headers[20:] + answer(5, 100), "path"), (headers[20:], "application")):
+            talk = Talk().open(40)
+            talk.say(110, "C", get(1), get(3), get(5), grant(0, WIDE), grant(1, WIDE))
+            talk.say(111, "S", answer(1, 4000, 0))
+            for at in range(30):
+                talk.say(121 + 10 * at, "S", data(1, 4000, 0), headers[:20] if at == 29 else b"")
+            talk.say(421, "S", rest)
+            talk.say(422, "S", answer(5, 100) if cause == "application" else b"")
+            talk.bare(460, "C", FIN)
+            found = self.answered(talk)
+            self.assertEqual((found.named(3)[0], found.named(5)[0]), ("path", cause))
+
     def test_no_turn(self) -> None:
-        """One in the midst of the other, one in a packet of its own, one that was asked for before the other, and one
-        that is near waited for the server.
+        """One in a packet of its own, one that was asked for before the other, one that is near, and one behind more
+        than a socket holds waited for the server.
         """
         for found, stream in (
-            (self.downloads(10, answer(3, 100)), 3),
             (self.downloads(0), 3),
             (self.downloads(0, answer(1, 100), newer=True), 1),
             (self.downloads(0, answer(3, 100), round_trip=0.5), 3),
+            (self.downloads(10, answer(3, 100), size=120_000), 3),
         ):
             self.assertEqual(found.named(stream), ("application", "before", "server"))
             self.assertNotIn("others", found.shares(stream))

@@ -256,6 +256,24 @@ def fills_path(server: Server, path: str, count: int = 1) -> Script:
     return make
 
 
+def behind_download(server: Server) -> Script:
+    """A small answer that is asked for while a download fills a slow path."""
+
+    def make(stage: Stage) -> float:
+        with stage.serving(server) as port, stage.raw(port, WIDE) as client:
+            client.grant(0, size=1 << 24)
+            client.get(1, "/mega")
+            client.read_until(lambda _: client.content(1) >= 100_000)
+            began = time.monotonic()
+            client.get(3, "/small")
+            client.read_until(lambda _: client.content(3) >= SIZES["small"])
+            held = time.monotonic() - began
+            client.read_until(lambda _: client.content(1) >= SIZES["mega"])
+        return held
+
+    return make
+
+
 def uploads_over_slow_path(stage: Stage) -> float:
     assert stage.line
     with stage.serving(why_peers.nghttpd, ("-w24", "-W24")):

@@ -6,6 +6,7 @@ from typing import Any
 
 from tools.tests.why_peers import caddy, frame, h2o, nghttpd, nginx, node
 from tools.tests.why_scripts import (
+    behind_download,
     behind_proxy,
     client_pauses,
     fills_path,
@@ -305,6 +306,24 @@ ROWS: list[Row] = [
         PATH,
         stream=5,
         line=Line(0.04, 500_000),
+    ),
+    row(
+        "behind_download",
+        "nginx",
+        "a slow path, and a small answer behind a download",
+        behind_download(nginx),
+        PATH,
+        stream=3,
+        line=Line(0.04, 500_000),
+    ),
+    row(
+        "behind_download_at_client",
+        "h2o",
+        "a slow path, and a small answer behind a download",
+        behind_download(h2o),
+        PATH,
+        stream=3,
+        line=Line(0.04, 500_000, CLIENT_END),
     ),
     row(
         "upload_over_slow_path",

@@ -105,24 +105,29 @@ pub struct Total {
     pub last: Option<Nanos>,
     pub begun: u32,
     pub ended: u32,
-    /// The stream with content that was opened last; and the packet in which one ended that had begun before it.
+    /// The stream that was opened last of those that have begun; and the last packet with content of one that had begun
+    /// before it, or with the end of what stood behind that.
     pub newest: u32,
     pub turn: Option<Nanos>,
 }
 
+/// So much a socket of Linux holds that is not sent yet, unless it was told to hold more.
+const MOST_QUEUED: u64 = 4 << 20;
+
 impl Total {
-    /// A direction that had content ends in a packet.
-    pub fn ends(&mut self, one: &Direction, at: At) {
-        self.ended += 1;
+    /// Content of a direction ends in a packet.
+    pub fn passes(&mut self, one: &Direction, at: At) {
         if one.first.map_or(false, |first| first.packet < at.packet) {
             self.turn = Some(at.time);
         }
     }
 
-    /// Whether what begins a stream stood behind all those that were opened before it: it comes in the packet in which
-    /// the last of them ends.
-    pub fn is_turn(&self, order: u32, times: &[Nanos]) -> bool {
-        self.turn.is_some() && self.turn == times.first().copied() && self.begun == self.ended && self.newest < order
+    /// Whether what begins a stream stood behind what its side sent of others since it was asked for, all of which were
+    /// opened before it: it comes in a packet with such content, and all of them have ended, or a socket may hold that.
+    pub fn is_turn(&self, stream: &Stream, side: usize, times: &[Nanos]) -> bool {
+        let is_behind = self.turn.is_some() && self.turn == times.first().copied() && self.newest < stream.order;
+        let queued = self.content.saturating_sub(stream.sides[side].beside.before);
+        is_behind && (self.begun == self.ended || queued <= MOST_QUEUED)
     }
 
     /// Content came in packets at these times; a pause is one that is longer than this.

@@ -212,11 +212,11 @@ impl Walk {
                 one.beside(&mut totals[side], cut.times, length, about.round_trip.nanos().unwrap_or(0) / 8);
             }
             one.window.content(&initials[side], if is_judged { length } else { 0 });
-            totals[side].newest = totals[side].newest.max(stream.order);
             if let Some(leaks) = &mut leaks[side] {
                 leaks.content(Some(stream), length);
             }
             met(stream, frame, about, (initials, windows), totals);
+            totals[side].passes(&stream.sides[side], frame.at);
             stream.note_use(uses_window);
         });
         if let (None, Some(leaks)) = (touched, &mut leaks[side]) {
@@ -437,10 +437,12 @@ fn met(
     let met = Met { times: cut.times, at, credit: credit(stream, side) };
     let mut holding = about.holding(side, stream.number);
     if stream.sides[side].first.is_none() {
-        match about.is_far() && totals[side].is_turn(stream.order, cut.times) {
-            true => holding.turn = about.courses[side].sends_since,
+        match about.is_far() && totals[side].is_turn(stream, side, cut.times) {
+            // What begins in the packet in which this frame ends stood behind it.
+            true => (holding.turn, totals[side].turn) = (about.courses[side].sends_since, Some(at.time)),
             false => stream.sides[side].begin_beside(&totals[side]),
         }
+        totals[side].newest = totals[side].newest.max(stream.order);
     }
     stream.sides[side].met(&holding, &met);
     let other = 1 - side;
@@ -451,9 +453,7 @@ fn met(
     }
     let ends = cut.head.kind != kind::CONTINUATION && cut.head.has(flag::END_STREAM);
     let one = &mut stream.sides[side];
-    if ends && one.end.is_none() && one.content > 0 {
-        totals[side].ends(one, at);
-    }
+    totals[side].ended += u32::from(ends && one.end.is_none() && one.content > 0);
     if ends {
         one.window.end(&initials[side]);
         one.finish_at(at);
