@@ -130,7 +130,8 @@ class Waterfall(OfAnswers):
     def test_a_click_opens_the_charts_beside_the_findings(self) -> None:
         self.find("#rows .row[data-at='2'] svg").click()
         panel = self.find("#request")
-        self.assertIn("HUNG for 2 s: the client granted nothing. Ask the client. Opened in packet 3. Not ended", panel.text)
+        said = "HUNG for 2 s: the client granted nothing. Ask the client. Opened in packet 3. Not ended:"
+        self.assertIn(said, panel.text)
         self.assertIn("server used up its credit on stream 1", panel.text)
         heads = [one.text for one in panel.find_elements(By.CSS_SELECTOR, "figure h3")]
         self.assertEqual(heads, ["Connection 1, server, stream 1"])
