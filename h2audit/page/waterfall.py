@@ -158,12 +158,14 @@ def end_words(request: Json) -> str:
     ended = request["ended"]
     if request["end_unseen"]:
         return "its end was not captured"
-    return "not ended: " * (ended["how"] not in ENDS) + by_whom(ended)
+    return by_whom(ended) if ended["how"] in ENDS or not ended["side"] else f"not ended: {what_of(ended)}"
 
 
 def by_whom(ended: Json) -> str:
-    if not ended["side"]:
-        return "the capture ends"
+    return f"ended by {what_of(ended)}" if ended["side"] else "not ended: the capture ends"
+
+
+def what_of(ended: Json) -> str:
     return f"the {ended['side']}'s {ended['how']}" + (f" {ended['code_name']}" if ended["code_name"] else "")
 
 

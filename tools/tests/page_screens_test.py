@@ -122,7 +122,7 @@ class Sentences(OnScreens):
             texts = [text for texts, _, _ in said for text in texts]
             self.assertIn(LONG, texts)
             self.assertIn(LIFE, texts)
-            self.assertIn("ask the client", "".join(texts))
+            self.assertIn("ask\u00a0the\u00a0client", "".join(texts))
             self.assertTrue(all(is_whole and is_above for _, is_whole, is_above in said), (width, said))
 
     def test_of_many_rows(self) -> None:

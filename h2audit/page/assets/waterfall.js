@@ -178,7 +178,8 @@ class Waterfall {
     const row = make("div", "", { className: one.isConnection ? "row connection-row" : "row" });
     const button = make("button", "", { type: "button" });
     button.style.width = this.isNarrow ? "100%" : `${area.x - 6}px`;
-    button.append(make("span", titleOf(one), { className: "title" }), make("span", factsOf(one), { className: "facts" }));
+    const facts = make("span", factsOf(one, "\u00a0"), { className: "facts" });
+    button.append(make("span", titleOf(one), { className: "title" }), facts);
     row.append(button);
     const drawing = svg("svg", { width: Math.max(area.w, 1), height: 26, "aria-hidden": "true" }, row);
     drawing.style[this.isNarrow ? "marginLeft" : "left"] = `${area.x}px`;
@@ -300,10 +301,11 @@ function underWay(requests, beginOf, end, size) {
 
 const titleOf = one => one.isConnection ? `Connection ${one.number}` : one.name;
 
-function factsOf(one) {
+// What stands behind a title; what belongs together of it may be kept on one line.
+function factsOf(one, blank = " ") {
   if (one.isConnection) return `${one.client} to ${one.server}`;
   const words = [`stream ${one.stream}`, one.status, duration(rounded(one.nanos))];
-  return words.concat(one.ask ? `ask the ${one.ask}` : []).join(" · ");
+  return words.concat(one.ask ? `ask the ${one.ask}` : []).map(fact => fact.replaceAll(" ", blank)).join(" · ");
 }
 
 // What held it back, and its whole life where that has several parts.
