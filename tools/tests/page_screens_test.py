@@ -1,6 +1,6 @@
 """Tests of how the page of a capture stands on screens and on paper: in Chromium, and that Firefox opens it too.
 
-    python3 -m tools.tests.page_screens_test [H2AUDIT] [FirstScreen | Sentences | Narrow | Keyboard | Pages | InFirefox]
+    python3 -m tools.tests.page_screens_test [H2AUDIT] [FirstScreen | Sentences | Narrow | Keyboard | ..]
 """
 
 import base64
@@ -18,7 +18,7 @@ from tools.tests.packages import require
 from tools.tests.page_answers import cause, doubtful, page_of, stalled
 from tools.tests.page_forms import page_of as page_of_capture
 from tools.tests.page_test import crowded
-from tools.tests.page_waterfall_test import OfAnswers
+from tools.tests.page_waterfall_test import ACCESSIBLE, OfAnswers
 from tools.tests.why_test import words_for
 from tools.tests.why_tools import TOP, has_programs, programs_of
 
@@ -210,6 +210,26 @@ class Keyboard(OnScreens):
         self.open(page_of(*stalled()))
         rows = "return [...document.querySelectorAll('tr[data-frame]')].filter(row => !row.querySelector('a')).length"
         self.assertEqual(self.browser.run(rows), 0)
+
+
+class Accessible(OnScreens):
+    def test_doubts_and_limits(self) -> None:
+        """What stands beside findings has names, heads in order, and contrast, in both schemes, and where it is narrow."""
+        report, document = doubtful()
+        document["warnings"] = [{"text": "times go back", "connection": None}]
+        one, where = document["connections"][0], {"packet": 4, "file": 1, "time": 0, "frame": 1}
+        one["notes"] = ["the server answered by HTTP/1.1"]
+        one["settings"] = [{"side": "client", "initial_window": 9, "at": where, "acknowledged": where}]
+        one["signals"] = [{"word": "GOAWAY", "side": "server", "code": 3, "code_name": "FLOW_CONTROL_ERROR",
+                           "stream": 0, "last_stream": 7, "debug": "too much", "at": where}]  # fmt: skip
+        for width, scheme in ((1280, "light"), (1280, "dark"), (390, "light")):
+            self.screen(width, 800)
+            self.browser.scheme(scheme)
+            self.open(page_of(report, document))
+            self.assertEqual(self.browser.run(ACCESSIBLE + "return faults();"), [], width)
+            self.assertEqual(self.browser.run(ACCESSIBLE + "return lowContrast().low;"), [], (width, scheme))
+        self.assertIn("18 doubtful faults", self.find("#windows figcaption").text)
+        self.assertIn("18 doubtful faults", self.find("#rows .row[data-at='1'] button").get_attribute("aria-label"))
 
 
 def paper(case: OnScreens, height: float) -> list[str]:

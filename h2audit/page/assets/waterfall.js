@@ -62,15 +62,17 @@ class Waterfall {
     this.show();
   }
 
-  // Where each row begins: they stand below each other once, out of sight, as they will be seen.
+  // Where each row begins: once for each width they stand below each other, out of sight, as they will be seen.
   measure() {
     const ruler = make("div", "", { className: "ruler" }), area = this.graph.getArea();
-    ruler.append(...this.listed.map(one => this.words(one, area)));
+    const others = this.listed.filter(one => one.wide !== this.wide);
+    ruler.append(...others.map(one => this.words(one, area)));
     this.space.replaceChildren(ruler);
     const heights = [...ruler.children].map(row => row.getBoundingClientRect().height);
+    others.forEach((one, at) => Object.assign(one, { wide: this.wide, height: heights[at] }));
     ruler.remove();
     let top = 0;
-    this.tops = [0, ...heights.map(height => top += height)];
+    this.tops = [0, ...this.listed.map(one => top += one.height)];
     this.space.style.height = `${top}px`;
   }
 
