@@ -224,8 +224,8 @@ class Known(unittest.TestCase):
         report, document = many(60, 20)
         letters = random.Random(1)
         long = ["".join(letters.choices(string.printable[:94], k=1024)) for _ in range(1024)]
-        signal = {"word": "GOAWAY", "side": "server", "code": 3, "code_name": "FLOW_CONTROL_ERROR", "stream": 0,
-                  "last_stream": 7, "at": at(90, START, 30)}  # fmt: skip
+        signal: dict[str, Any] = {"word": "GOAWAY", "side": "server", "code": 3, "code_name": "FLOW_CONTROL_ERROR",
+                                  "stream": 0, "last_stream": 7, "at": at(90, START, 30)}  # fmt: skip
         setting = {"side": "client", "initial_window": 10**5, "at": at(4, START, 1), "acknowledged": None}
         for one in document["connections"]:
             one["settings"] = [setting] * 1000

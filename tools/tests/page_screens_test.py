@@ -214,7 +214,7 @@ class Keyboard(OnScreens):
 
 class Accessible(OnScreens):
     def test_doubts_and_limits(self) -> None:
-        """What stands beside findings has names, heads in order, and contrast, in both schemes, and where it is narrow."""
+        """What stands beside findings has names, heads in order, and contrast, in both schemes and on a phone."""
         report, document = doubtful()
         document["warnings"] = [{"text": "times go back", "connection": None}]
         one, where = document["connections"][0], {"packet": 4, "file": 1, "time": 0, "frame": 1}
