@@ -182,7 +182,7 @@ def direction(one: Json, most: int) -> Json:
     """What one side did: its spans one after the other, as durations and kinds; or shares alone."""
     if one["spans"] is None:
         spans = [number for name in NAMES for number in (one["shares"][name], KIND[name]) if one["shares"][name]]
-        return {"content": one["content"], "spans": spans, "in_sum": 1}
+        return {"content": one["content"], "spans": spans}
     found = one["spans"] if len(one["spans"]) <= most else joined(one["spans"], most)
     spans = [number for _, nanos, name in found for number in (nanos, KIND[name])]
     return {"content": one["content"], "spans": spans}
