@@ -27,4 +27,4 @@ def narrow() -> str:
         for name, heads in HEADS.items()
         for place, head in enumerate(heads, 1)
     ]
-    return "@media screen and (max-width: 700px) {\n" + "\n".join(rules) + "\n}\n"
+    return "@media screen and (max-width: 880px) {\n" + "\n".join(rules) + "\n}\n"

@@ -157,16 +157,17 @@ class Sentences(OnScreens):
 
 
 class Narrow(OnScreens):
-    """At 390 pixels no column is out of sight, and each cell has its head."""
+    """At 800 and at 390 pixels no column is out of sight, and each cell has its head."""
 
     def test_columns(self) -> None:
         names = ("negative_window_tomcat", "stream_overrun_go", "leaked_connection_credit_nginx")
         pages = [page_of_capture([str(TOP / "examples" / f"{name}.pcap")])[1] for name in names]
         pages += [page_of(*stalled()), page_of(*doubtful()), page_of(crowded(700, 20, 2))]
-        self.screen(390, 800)
         for number, text in enumerate(pages):
-            self.open(text)
-            self.assertEqual(self.browser.run(OUT_OF_SIGHT), [], number)
+            for width in (800, 390):
+                self.screen(width, 800)
+                self.open(text)
+                self.assertEqual(self.browser.run(OUT_OF_SIGHT), [], (number, width))
 
     def test_heads(self) -> None:
         self.screen(390, 800)
