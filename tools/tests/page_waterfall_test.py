@@ -100,9 +100,12 @@ class Waterfall(OfAnswers):
         wide = """
             const wide = (row, name) => Number(document.querySelectorAll('#rows .row')[row]
               .querySelector(name).getBoundingClientRect().width);
-            return [wide(2, '.stream_stall'), wide(0, '.life')];
+            const right = one => one.getBoundingClientRect().right, rows = document.getElementById('rows');
+            const isWhole = right(document.querySelector('#rows .life')) < right(rows.querySelector('.row'));
+            return [wide(2, '.stream_stall'), wide(0, '.life'), isWhole];
         """
-        stall, life = self.browser.run(wide)
+        stall, life, is_whole = self.browser.run(wide)
+        self.assertTrue(is_whole)
         self.assertAlmostEqual(stall / life, 2 / 2.1, delta=0.01)
         self.assertGreater(life, 400)
 

@@ -94,6 +94,7 @@ class Waterfall {
     const colour = colours(), from = { own: "its opening", capture: "the first SYN" }[field("scale").value];
     const label = `${this.unit} since ${from ?? "the SYN of the connection"}`;
     this.wide = this.box.clientWidth;
+    field("overview").style.width = `${this.wide}px`; // as wide as the rows, which have a bar to scroll beside them
     this.isNarrow = this.wide < NARROW;
     this.box.classList.toggle("narrow", this.isNarrow);
     this.graph?.destroy();
