@@ -5,8 +5,8 @@ from dataclasses import dataclass
 from h2audit.report.charts import Json
 from h2audit.report.words import count
 
-# So many warnings, and different limits of what can be seen, stand at the top.
-MOST_WARNINGS, MOST_LIMITS = 100, 8
+# So many warnings, reasons and different limits of what can be seen stand at the top.
+MOST, MOST_LIMITS = 100, 8
 
 
 @dataclass
@@ -32,13 +32,17 @@ class Answer:
                 seen.setdefault(text, []).append(one["number"])
         limited = [f"Connection {of[0]}" + f" and {len(of) - 1:,} more" * (len(of) > 1) + f": {text}"
                    for text, of in list(seen.items())[:MOST_LIMITS]]  # fmt: skip
-        if (more := len(warnings) - MOST_WARNINGS) > 0:
-            warnings[MOST_WARNINGS:] = [f"{count(more, 'warning')} more, which h2audit-why tells"]
-        return [ended(text) for text in warnings + limited]
+        return [ended(text) for text in first_of(warnings, "warning") + limited]
 
     @property
     def connections(self) -> list[Json]:
         return list(self.document["connections"])
+
+
+def first_of(lines: list[str], what: str) -> list[str]:
+    """As many as stand in a page, and how many more there are."""
+    more = len(lines) - MOST
+    return lines[:MOST] + [f"{count(more, what)} more, which h2audit-why tells"] * (more > 0)
 
 
 def ended(text: str) -> str:

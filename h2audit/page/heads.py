@@ -9,7 +9,7 @@ HEADS: dict[str, tuple[str, ...]] = {
     "asked": ("Whom to ask", "About", "Requests", "Connections", "Longest", "In all, each instant once"),
     "asked-of-stalls": ("Whom to ask", "About", "Stalls", "Connections", "Longest", "In all, each instant once"),
     "stalls": ("How long", "Who waited", "Where", "From"),
-    "requests": ("Request", "Stream", "Connection", "Status", "Life", "What held it back", "Ask", "End"),
+    "requests": ("Request", "Stream", "Connection", "Status", "Life", "What held it back", "Ask", "How it ended"),
     "connections": ("Connection", "Client", "Server", "Opened in packet", "Frames", "Verdict"),
     "settings": ("Who announced it", "Initial window", "SETTINGS in packet", "Acknowledged in packet"),
     "signals": ("Who", "Sent", "Error", "Packet", "About", "Debug text"),
@@ -27,4 +27,4 @@ def narrow() -> str:
         for name, heads in HEADS.items()
         for place, head in enumerate(heads, 1)
     ]
-    return "@media screen and (max-width: 700px) {\n" + "\n".join(rules) + "\n}\n"
+    return "@media screen and (max-width: 880px) {\n" + "\n".join(rules) + "\n}\n"

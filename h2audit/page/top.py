@@ -3,6 +3,7 @@
 from collections import defaultdict
 from typing import NamedTuple
 
+from h2audit.page.answer import ended, first_of
 from h2audit.page.model import Audit, Connection
 from h2audit.page.words import MOST_NAMED, breaches, doubts
 from h2audit.report.charts import Json
@@ -86,10 +87,11 @@ def not_audited(audit: Audit) -> list[str]:
     for one in audit.connections:
         if one.unaudited:
             named[one.unaudited].append(one)
-    return [
-        f"Not audited: {text}" + (f": {names(named[why])}" if why in named else "") + "."
+    said = [
+        f"Not audited: {text}" + (f": {names(named[why])}" if why in named else "")
         for why, text in audit.why_not.items()
     ]
+    return [ended(text) for text in first_of(said, "reason")]
 
 
 def names(connections: list[Connection]) -> str:

@@ -158,12 +158,14 @@ def end_words(request: Json) -> str:
     ended = request["ended"]
     if request["end_unseen"]:
         return "its end was not captured"
-    return "not ended: " * (ended["how"] not in ENDS) + by_whom(ended)
+    return by_whom(ended) if ended["how"] in ENDS or not ended["side"] else f"not ended: {what_of(ended)}"
 
 
 def by_whom(ended: Json) -> str:
-    if not ended["side"]:
-        return "the capture ends"
+    return f"ended by {what_of(ended)}" if ended["side"] else "not ended: the capture ends"
+
+
+def what_of(ended: Json) -> str:
     return f"the {ended['side']}'s {ended['how']}" + (f" {ended['code_name']}" if ended["code_name"] else "")
 
 
@@ -180,7 +182,7 @@ def direction(one: Json, most: int) -> Json:
     """What one side did: its spans one after the other, as durations and kinds; or shares alone."""
     if one["spans"] is None:
         spans = [number for name in NAMES for number in (one["shares"][name], KIND[name]) if one["shares"][name]]
-        return {"content": one["content"], "spans": spans, "in_sum": 1}
+        return {"content": one["content"], "spans": spans}
     found = one["spans"] if len(one["spans"]) <= most else joined(one["spans"], most)
     spans = [number for _, nanos, name in found for number in (nanos, KIND[name])]
     return {"content": one["content"], "spans": spans}

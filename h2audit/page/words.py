@@ -7,7 +7,7 @@ from datetime import datetime, timezone
 
 from h2audit.page.model import Audit, Connection, Opening
 from h2audit.report.charts import Note
-from h2audit.report.words import OTHER_SIDE, count, duration, streams_named
+from h2audit.report.words import count, duration, streams_named
 
 MOST_STALLS = 10
 MOST_NAMED = 8
@@ -144,11 +144,6 @@ def windows_named(stalls: list[Note]) -> str:
 
 def endpoint(opening: Opening, side: str) -> str:
     return opening.client if side == "client" else opening.server
-
-
-def whom_to_ask(connection: Connection, stall: Note) -> str:
-    other = OTHER_SIDE[stall.finding.side]
-    return f"the {other}, {endpoint(connection.opening, other)}"
 
 
 def verdict(audit: Audit, one: Connection) -> str:

@@ -6,6 +6,8 @@ import base64
 import html
 import json
 import pathlib
+import random
+import string
 import unittest
 import zlib
 from typing import Any
@@ -216,6 +218,27 @@ class Known(unittest.TestCase):
             "2.05 s: the server's window 2 s (98 %)|the client|its end was not captured",
             rows(page_of(report, document)),
         )
+
+    def test_all_is_bounded(self) -> None:
+        """What peers wrote at length, and very often, makes no page of 5 MB."""
+        report, document = many(60, 20)
+        letters = random.Random(1)
+        long = ["".join(letters.choices(string.printable[:94], k=1024)) for _ in range(1024)]
+        signal: dict[str, Any] = {"word": "GOAWAY", "side": "server", "code": 3, "code_name": "FLOW_CONTROL_ERROR",
+                                  "stream": 0, "last_stream": 7, "at": at(90, START, 30)}  # fmt: skip
+        setting = {"side": "client", "initial_window": 10**5, "at": at(4, START, 1), "acknowledged": None}
+        for one in document["connections"]:
+            one["settings"] = [setting] * 1000
+            one["signals"] = [{**signal, "debug": debug} for debug in long]
+            one["notes"] = long[:2]
+            for request, name in zip(one["requests"], long):
+                request["name"] = name
+        document["not_audited"] = [
+            {"reason": f"gap {at}", "count": 1, "text": f"1 connection {at}"} for at in range(9999)
+        ]
+        text = page_of(report, document)
+        self.assertLess(len(text.encode()), 5 * 10**6)
+        self.assertIn("9,899 reasons more, which h2audit-why tells.", text)
 
     def test_many_warnings(self) -> None:
         report, document = stalled()

@@ -362,8 +362,9 @@ class Schemes(InBrowser):
     def test_print(self) -> None:
         self.browser.scheme("dark", "print")
         self.example("stream_overrun_go")
-        for hidden in ("#filters", ".keys", "footer"):
+        for hidden in ("#filters", ".keys", "footer details"):
             self.assertFalse(self.find(hidden).is_displayed(), hidden)
+        self.assertTrue(self.find("footer p").is_displayed())
         self.assertEqual(
             self.browser.run("return getComputedStyle(document.body).backgroundColor"), "rgb(255, 255, 255)"
         )

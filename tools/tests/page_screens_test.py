@@ -1,6 +1,6 @@
 """Tests of how the page of a capture stands on screens and on paper: in Chromium, and that Firefox opens it too.
 
-    python3 -m tools.tests.page_screens_test [H2AUDIT] [FirstScreen | Sentences | Narrow | Keyboard | Pages | InFirefox]
+    python3 -m tools.tests.page_screens_test [H2AUDIT] [FirstScreen | Sentences | Narrow | Keyboard | ..]
 """
 
 import base64
@@ -18,7 +18,7 @@ from tools.tests.packages import require
 from tools.tests.page_answers import cause, doubtful, page_of, stalled
 from tools.tests.page_forms import page_of as page_of_capture
 from tools.tests.page_test import crowded
-from tools.tests.page_waterfall_test import OfAnswers
+from tools.tests.page_waterfall_test import ACCESSIBLE, OfAnswers
 from tools.tests.why_test import words_for
 from tools.tests.why_tools import TOP, has_programs, programs_of
 
@@ -122,7 +122,7 @@ class Sentences(OnScreens):
             texts = [text for texts, _, _ in said for text in texts]
             self.assertIn(LONG, texts)
             self.assertIn(LIFE, texts)
-            self.assertIn("ask the client", "".join(texts))
+            self.assertIn("ask\u00a0the\u00a0client", "".join(texts))
             self.assertTrue(all(is_whole and is_above for _, is_whole, is_above in said), (width, said))
 
     def test_of_many_rows(self) -> None:
@@ -157,16 +157,17 @@ class Sentences(OnScreens):
 
 
 class Narrow(OnScreens):
-    """At 390 pixels no column is out of sight, and each cell has its head."""
+    """At 800 and at 390 pixels no column is out of sight, and each cell has its head."""
 
     def test_columns(self) -> None:
         names = ("negative_window_tomcat", "stream_overrun_go", "leaked_connection_credit_nginx")
         pages = [page_of_capture([str(TOP / "examples" / f"{name}.pcap")])[1] for name in names]
         pages += [page_of(*stalled()), page_of(*doubtful()), page_of(crowded(700, 20, 2))]
-        self.screen(390, 800)
         for number, text in enumerate(pages):
-            self.open(text)
-            self.assertEqual(self.browser.run(OUT_OF_SIGHT), [], number)
+            for width in (800, 390):
+                self.screen(width, 800)
+                self.open(text)
+                self.assertEqual(self.browser.run(OUT_OF_SIGHT), [], (number, width))
 
     def test_heads(self) -> None:
         self.screen(390, 800)
@@ -210,6 +211,26 @@ class Keyboard(OnScreens):
         self.open(page_of(*stalled()))
         rows = "return [...document.querySelectorAll('tr[data-frame]')].filter(row => !row.querySelector('a')).length"
         self.assertEqual(self.browser.run(rows), 0)
+
+
+class Accessible(OnScreens):
+    def test_doubts_and_limits(self) -> None:
+        """What stands beside findings has names, heads in order, and contrast, in both schemes and on a phone."""
+        report, document = doubtful()
+        document["warnings"] = [{"text": "times go back", "connection": None}]
+        one, where = document["connections"][0], {"packet": 4, "file": 1, "time": 0, "frame": 1}
+        one["notes"] = ["the server answered by HTTP/1.1"]
+        one["settings"] = [{"side": "client", "initial_window": 9, "at": where, "acknowledged": where}]
+        one["signals"] = [{"word": "GOAWAY", "side": "server", "code": 3, "code_name": "FLOW_CONTROL_ERROR",
+                           "stream": 0, "last_stream": 7, "debug": "too much", "at": where}]  # fmt: skip
+        for width, scheme in ((1280, "light"), (1280, "dark"), (390, "light")):
+            self.screen(width, 800)
+            self.browser.scheme(scheme)
+            self.open(page_of(report, document))
+            self.assertEqual(self.browser.run(ACCESSIBLE + "return faults();"), [], width)
+            self.assertEqual(self.browser.run(ACCESSIBLE + "return lowContrast().low;"), [], (width, scheme))
+        self.assertIn("18 doubtful faults", self.find("#windows figcaption").text)
+        self.assertIn("18 doubtful faults", self.find("#rows .row[data-at='1'] button").get_attribute("aria-label"))
 
 
 def paper(case: OnScreens, height: float) -> list[str]:

@@ -96,6 +96,25 @@ class Examples(unittest.TestCase):
                 if (report := capture.with_suffix(form)).exists():
                     of_report.validate(windows(report.read_bytes()))
 
+    def test_what_a_report_has_not_audited(self) -> None:
+        """By reason, in the words of an answer; a report has one word where the SYN ACK is not there."""
+        forms = ("http2 frames 2", "no-handshake", "not-http2", "refused no-key", "refused gap 12", "not-http2",
+                 "no-preface", "refused no-handshake")  # fmt: skip
+        lines = ["capture records 9 segments 9 snapped 0 not-ipv4 0 fragments 0 not-tcp 0 refused 0"]
+        lines += [f"connection {number} client 10.0.0.1:{number} server 10.0.0.2:2 record {number} {form}"
+                  for number, form in enumerate(forms, 1)]  # fmt: skip
+        found = [tuple(one.values()) for one in windows("\n".join([*lines, ""]).encode())["not_audited"]]
+        self.assertEqual(
+            found,
+            [
+                ("gap 12", 1, "1 connection of TLS that could not be read (gap 12)"),
+                ("no-handshake", 2, "2 connections whose SYN ACK was not captured"),
+                ("no-key", 1, "1 connection of TLS without a key in the key logs (-k)"),
+                ("no-preface", 1, "1 connection whose client sent no whole preface of HTTP/2"),
+                ("not-http2", 2, "2 connections that spoke no HTTP/2, or began by an upgrade"),
+            ],
+        )
+
     def test_beside_json(self) -> None:
         """It has what --json has, where nothing is too much."""
         for capture in EXAMPLES:

@@ -62,15 +62,17 @@ class Waterfall {
     this.show();
   }
 
-  // Where each row begins: they stand below each other once, out of sight, as they will be seen.
+  // Where each row begins: once for each width they stand below each other, out of sight, as they will be seen.
   measure() {
     const ruler = make("div", "", { className: "ruler" }), area = this.graph.getArea();
-    ruler.append(...this.listed.map(one => this.words(one, area)));
+    const others = this.listed.filter(one => one.wide !== this.wide);
+    ruler.append(...others.map(one => this.words(one, area)));
     this.space.replaceChildren(ruler);
     const heights = [...ruler.children].map(row => row.getBoundingClientRect().height);
+    others.forEach((one, at) => Object.assign(one, { wide: this.wide, height: heights[at] }));
     ruler.remove();
     let top = 0;
-    this.tops = [0, ...heights.map(height => top += height)];
+    this.tops = [0, ...this.listed.map(one => top += one.height)];
     this.space.style.height = `${top}px`;
   }
 
@@ -92,6 +94,7 @@ class Waterfall {
     const colour = colours(), from = { own: "its opening", capture: "the first SYN" }[field("scale").value];
     const label = `${this.unit} since ${from ?? "the SYN of the connection"}`;
     this.wide = this.box.clientWidth;
+    field("overview").style.width = `${this.wide}px`; // as wide as the rows, which have a bar to scroll beside them
     this.isNarrow = this.wide < NARROW;
     this.box.classList.toggle("narrow", this.isNarrow);
     this.graph?.destroy();
@@ -178,7 +181,8 @@ class Waterfall {
     const row = make("div", "", { className: one.isConnection ? "row connection-row" : "row" });
     const button = make("button", "", { type: "button" });
     button.style.width = this.isNarrow ? "100%" : `${area.x - 6}px`;
-    button.append(make("span", titleOf(one), { className: "title" }), make("span", factsOf(one), { className: "facts" }));
+    const facts = make("span", factsOf(one, "\u00a0"), { className: "facts" });
+    button.append(make("span", titleOf(one), { className: "title" }), facts);
     row.append(button);
     const drawing = svg("svg", { width: Math.max(area.w, 1), height: 26, "aria-hidden": "true" }, row);
     drawing.style[this.isNarrow ? "marginLeft" : "left"] = `${area.x}px`;
@@ -300,10 +304,11 @@ function underWay(requests, beginOf, end, size) {
 
 const titleOf = one => one.isConnection ? `Connection ${one.number}` : one.name;
 
-function factsOf(one) {
+// What stands behind a title; what belongs together of it may be kept on one line.
+function factsOf(one, blank = " ") {
   if (one.isConnection) return `${one.client} to ${one.server}`;
   const words = [`stream ${one.stream}`, one.status, duration(rounded(one.nanos))];
-  return words.concat(one.ask ? `ask the ${one.ask}` : []).join(" · ");
+  return words.concat(one.ask ? `ask the ${one.ask}` : []).map(fact => fact.replaceAll(" ", blank)).join(" · ");
 }
 
 // What held it back, and its whole life where that has several parts.
