@@ -1,6 +1,5 @@
 use super::*;
 use crate::key_schedule::{traffic_keys, TrafficKeys};
-use crate::records::HEADER_LENGTH;
 use crate::sample::sealed_in;
 use crate::sealing::Sealer;
 use crate::{CLIENT, SERVER};
@@ -91,20 +90,27 @@ fn rate_of_tags(wrong: &Sealer, keys: &TrafficKeys, bytes: &[u8]) -> f64 {
     TRIES as f64 / begun.elapsed().as_secs_f64()
 }
 
-/// The whole of a search: 50 servers, of which the last one is meant, at its 100,000th record.
+/// The whole of a search: a log of so many servers, of which the last one is meant, at a record of this number. Secrets of
+/// 32 bytes are tried with AES and with ChaCha20.
 #[test]
 #[ignore = "measures"]
 fn speed_of_a_search() {
-    for (code, length) in [(0x1301, 32), (0x1302, 48), (0x1303, 32)] {
-        let bytes = records(code, 49, 99_999, [30, 1400]);
+    for (code, count, at) in [
+        (0x1301, 50, 99_999),
+        (0x1302, 50, 99_999),
+        (0x1303, 50, 99_999),
+        (0x1302, 10_000, 2_000),
+        (0x1302, 10_000, 100),
+    ] {
+        let length = if code == 0x1302 { 48 } else { 32 };
+        let bytes = records(code, count - 1, at, [30, 1400]);
         let records = sealed_in(&bytes);
-        let (pair, alone) = (Sample::of(&records), Sample::of(&records[..1]));
-        assert_eq!(bytes.len(), 30 + 1400 + 2 * HEADER_LENGTH);
-        for (what, sample) in [("pair", pair), ("alone", alone)] {
-            let mut search = Search::default();
-            let found = search.find(&log(50, length), &[sample, None], &Known::Nothing).ok().unwrap();
-            assert_eq!(found.number, 99_999);
-            println!("0x{code:x} {what}: {:?}", search.spent);
+        let keys = log(count as usize, length);
+        for (what, sample) in [("pair", Sample::of(&records)), ("alone", Sample::of(&records[..1]))] {
+            let mut search = Search::new(1 << 20, 1000);
+            let found = search.find(&keys, &[sample, None], &Known::Nothing).ok().unwrap();
+            assert_eq!(found.number, at);
+            println!("0x{code:x} {count} secrets, record {at}, {what}: {:?}", search.spent);
         }
     }
 }

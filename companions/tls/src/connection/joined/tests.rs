@@ -64,6 +64,21 @@ fn read(shared: &mut Shared, segments: &[(usize, &[u8])]) -> (Plain, Connection)
     (plain, connection)
 }
 
+/// Packets that are not whole leave no whole record.
+#[test]
+fn snapped_packets() {
+    let mut shared = shared(&[1; 48], &[2; 48]);
+    let record = Sealer::new(0x1302, 1).data(&text(500));
+    for (is_snapped, wanted) in [(false, Reason::Tail(30)), (true, Reason::Snapped)] {
+        let mut connection = Connection::from_middle(0, &shared);
+        let arrival = Arrival { packet: 1, nanos: 0 };
+        connection.segment(&mut shared, &mut Plain::default(), CLIENT, 0, &record[..30], arrival);
+        connection.segment(&mut shared, &mut Plain::default(), CLIENT, 500, &record[..30], arrival);
+        connection.finish(&mut shared, &mut Plain::default(), &Known { is_snapped, ..KNOWN });
+        assert_eq!(connection.refused(), Some(wanted));
+    }
+}
+
 /// Text of so many bytes that differs from place to place.
 fn text(length: usize) -> Vec<u8> {
     (0..length).map(|at| (at * 31 % 251) as u8).collect()
