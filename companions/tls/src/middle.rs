@@ -120,7 +120,8 @@ impl Middle {
     /// Settles the sides that can be tried, and those that wait no longer.
     pub fn settle(&mut self, shared: &mut Shared, is_last: bool) -> [Option<Settled>; 2] {
         let records = [CLIENT, SERVER].map(|side| self.records(side));
-        if records.iter().any(|records| is_tls_1_2(records)) {
+        let is_known = self.found.is_some() || !self.before.is_empty();
+        if !is_known && records.iter().any(|records| is_tls_1_2(records)) {
             return [(); 2].map(|()| Some(Settled::Ends(Reason::NoServerRandom)));
         }
         let ([client, server], found) = self.search(shared, &records, is_last);

@@ -25,6 +25,16 @@ fn records(code: u16, number: u64, at: u64, lengths: [usize; 2]) -> Vec<u8> {
     lengths.iter().flat_map(|length| sealer.data(&vec![1; length - 17])).collect()
 }
 
+#[test]
+fn waves_are_all_numbers() {
+    for numbers in [0, 1, 511, 512, 513, 5000, 1 << 20, u64::MAX] {
+        let waves = waves(numbers);
+        assert_eq!(waves.iter().map(|wave| wave.end - wave.start).sum::<u64>(), numbers);
+        assert!(waves.windows(2).all(|pair| pair[0].end == pair[1].start));
+        assert!(waves.len() < 60);
+    }
+}
+
 /// Both sides are searched, by the secrets of clients and servers, and one that is found leaves its own to the other.
 #[test]
 fn what_is_found_says_whose_it_is() {

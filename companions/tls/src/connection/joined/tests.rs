@@ -238,6 +238,19 @@ fn tls_1_2_is_refused_by_name() {
     assert_eq!(refused(&[of_data(76, 9), by_chance].concat()), Some(Reason::SearchedNumbers(100)));
 }
 
+/// Once a side is opened, nothing in the clear makes the connection another version.
+#[test]
+fn a_version_that_is_known_stays() {
+    let (mut client, mut server) = (Sealer::new(0x1302, 1), Sealer::new(0x1302, 2));
+    let mut shared = shared_of(&client, &server);
+    let down: Vec<_> = (0..3).map(|at| server.data(&[at])).collect();
+    let up = [client.data(b"said"), record_of_1_2(HANDSHAKE, 1, 40)].concat();
+    let (plain, connection) = read(&mut shared, &[(SERVER, &down[..2].concat()), (CLIENT, &up), (SERVER, &down[2])]);
+    assert_eq!((plain.of(CLIENT), plain.of(SERVER)), (b"said".to_vec(), vec![0, 1, 2]));
+    assert_eq!(connection.side(CLIENT).end().map(|(why, _)| why), Some(Reason::NotTls));
+    assert_eq!((connection.refused(), connection.side(SERVER).end()), (None, None));
+}
+
 /// The capture begins within the handshake: the secrets of handshakes open it, and then those of traffic.
 #[test]
 fn from_within_the_handshake() {
