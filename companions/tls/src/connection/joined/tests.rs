@@ -182,7 +182,7 @@ fn the_bound_of_time() {
         assert_eq!(read(&mut shared, &[(SERVER, &down)]).1.refused(), Some(Reason::SearchedSeconds(1)));
     }
     let took = begun.elapsed();
-    assert!((Duration::from_millis(900)..Duration::from_millis(2500)).contains(&took), "{took:?}");
+    assert!((Duration::from_millis(900)..Duration::from_secs(5)).contains(&took), "{took:?}");
     shared.keys.add_text(line("SERVER_TRAFFIC_SECRET_0", 7, &server.secret).as_bytes());
     assert_eq!(read(&mut shared, &[(SERVER, &down)]).1.refused(), Some(Reason::SearchedSeconds(1)));
     shared.search = Search::new(100, 1);
