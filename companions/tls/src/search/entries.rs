@@ -33,7 +33,7 @@ pub enum Known<'a> {
     Other(&'a Found),
     /// What opens a later record of the side, behind a key update.
     Later(&'a Found),
-    /// What opened the next record of each side, before some of it were lost.
+    /// What opened the next record of each side, or of one, before some were lost.
     Before(&'a [Found]),
 }
 
@@ -106,10 +106,15 @@ impl Entry {
 
 /// The secrets that may have protected a record, each with the keys of one length.
 pub fn entries_of(keys: &Keys, known: &Known<'_>) -> Vec<Entry> {
-    if let Known::Before(found) = known {
-        return found.iter().map(Entry::of).collect();
-    }
     let mut entries = Vec::new();
+    if let Known::Before(found) = known {
+        entries.extend(found.iter().map(Entry::of));
+        if let [found] = found {
+            let side = Some(1 - found.side);
+            entries.extend(entries_of(keys, &Known::Other(found)).into_iter().map(|entry| Entry { side, ..entry }));
+        }
+        return entries;
+    }
     for (random, label, secret) in keys.with(&OF_SIDES.concat()) {
         let role = if OF_SIDES[CLIENT].contains(&label) { CLIENT } else { SERVER };
         if !known.has(random, role) {

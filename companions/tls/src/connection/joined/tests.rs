@@ -290,6 +290,35 @@ fn behind_lost_records() {
     assert!(Connection::from_middle(0, &Shared::default()).behind_loss(1, &Shared::default()).is_none());
 }
 
+/// A side of which nothing was read before is known by its connection.
+#[test]
+fn behind_lost_records_of_one_side() {
+    let (mut client, mut server) = (Sealer::new(0x1301, 1), Sealer::new(0x1301, 2));
+    let mut shared = shared_of(&client, &server);
+    let (_, first) = read(&mut shared, &[(CLIENT, &[client.data(b"a"), client.data(b"b")].concat())]);
+    (client.number, server.number) = (20, 30);
+    let (up, down) = (client.data(b"c"), [server.data(b"d"), server.data(b"e")].concat());
+    let (mut plain, mut connection) = (Plain::default(), first.behind_loss(1, &shared).unwrap());
+    for (side, data) in [(SERVER, &down), (CLIENT, &up)] {
+        connection.segment(&mut shared, &mut plain, side, 0, data, Arrival { packet: 1, nanos: 0 });
+    }
+    assert_eq!((plain.of(SERVER), plain.of(CLIENT)), (b"de".to_vec(), b"c".to_vec()));
+}
+
+/// What waited together is told in the order in which it came.
+#[test]
+fn both_sides_keep_their_order() {
+    let (mut client, mut server) = (Sealer::new(0x1301, 1), Sealer::new(0x1301, 2));
+    let mut shared = shared_of(&client, &server);
+    let down = [server.data(b"cut"), server.data(&text(30)), server.data(&text(30))].concat();
+    let (up, half) = (client.data(b"c"), 30);
+    let segments = [(SERVER, &down[1..half]), (CLIENT, &up[..]), (SERVER, &down[half..100]), (SERVER, &down[100..])];
+    let (plain, connection) = read(&mut shared, &segments);
+    let order: Vec<_> = plain.0.iter().map(|(side, _, packet)| (*side, *packet)).collect();
+    assert_eq!(order, [(CLIENT, 2), (SERVER, 3), (SERVER, 4)]);
+    assert_eq!(connection.side(SERVER).skipped(), 24);
+}
+
 #[test]
 fn padding_alerts_and_one_record_alone() {
     let (client, mut server) = (Sealer::new(0x1302, 1), Sealer::new(0x1302, 2));
