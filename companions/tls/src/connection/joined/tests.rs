@@ -273,8 +273,9 @@ fn behind_lost_records() {
         let mut shared = Shared { search: Search::new(200, 60), ..shared_of(&client, &server) };
         let (up, down) =
             ([client.data(b"a"), client.data(b"b")].concat(), [server.data(b"c"), server.update()].concat());
-        let (_, first) = read(&mut shared, &[(CLIENT, &up), (SERVER, &[&down[..], &server.data(b"d")].concat())]);
-        assert_eq!(first.count(), 4);
+        let more: Vec<_> = (0..40).flat_map(|_| server.data(b"d")).collect();
+        let (_, first) = read(&mut shared, &[(CLIENT, &up), (SERVER, &[down, more].concat())]);
+        assert_eq!(first.count(), 43);
         (client.number, server.number) = (190, 150);
         (0..updates).for_each(|_| server.skip_to_update());
         let down = [server.data(b"lost"), server.data(b"e"), server.data(b"f")].concat();
@@ -379,8 +380,9 @@ fn hostile_records_take_linear_time() {
             read(&mut shared, &segments);
             begun.elapsed()
         };
-        let (short, long) = (took(2000), took(16_000));
-        assert!(long < short * 24 + Duration::from_millis(100), "{short:?} {long:?}");
+        let best = |count| (0..3).map(|_| took(count)).min().unwrap();
+        let (short, long) = (best(1000), best(16_000));
+        assert!(long < short * 64 + Duration::from_millis(50), "{short:?} {long:?}");
     }
 }
 
