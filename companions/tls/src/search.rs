@@ -20,7 +20,7 @@ mod entries;
 #[cfg(test)]
 mod tests;
 
-pub use entries::{Found, Known};
+pub use entries::{Found, Given};
 
 const MOST_NUMBERS: u64 = 1 << 20;
 const MOST_SECONDS: u64 = 60;
@@ -55,7 +55,7 @@ impl Search {
     }
 
     /// What opens a record of one of two sides.
-    pub fn find(&mut self, keys: &Keys, samples: &[Option<Sample<'_>>; 2], known: &Known<'_>) -> Result<Found, Reason> {
+    pub fn find(&mut self, keys: &Keys, samples: &[Option<Sample<'_>>; 2], given: &Given<'_>) -> Result<Found, Reason> {
         let begun = Instant::now();
         let left = Duration::from_secs(self.seconds).saturating_sub(self.spent) / SHARE;
         let (numbers, seconds) = (self.numbers, self.seconds);
@@ -63,7 +63,7 @@ impl Search {
             return Err(Reason::SearchedSeconds(seconds));
         }
         let found = match Bench::new() {
-            Ok(bench) => Attempt { bench, room: Vec::new(), samples, begun, left, numbers, seconds }.find(keys, known),
+            Ok(bench) => Attempt { bench, room: Vec::new(), samples, begun, left, numbers, seconds }.find(keys, given),
             Err(_) => Err(Reason::NoKey),
         };
         self.spent += begun.elapsed();
@@ -94,17 +94,17 @@ struct Attempt<'a> {
 }
 
 impl Attempt<'_> {
-    fn find(&mut self, keys: &Keys, known: &Known<'_>) -> Result<Found, Reason> {
-        let mut entries = entries_of(keys, known);
+    fn find(&mut self, keys: &Keys, given: &Given<'_>) -> Result<Found, Reason> {
+        let mut entries = entries_of(keys, given);
         if entries.is_empty() {
             return Err(Reason::NoKey);
         }
-        for updates in 0..known.updates().end {
+        for updates in 0..given.updates().end {
             if updates > 0 {
                 entries.retain(|entry| entry.stage == Stage::Traffic);
                 entries.iter_mut().for_each(Entry::update);
             }
-            if known.updates().contains(&updates) {
+            if given.updates().contains(&updates) {
                 if let Some(found) = self.find_among(&entries)? {
                     return Ok(found);
                 }

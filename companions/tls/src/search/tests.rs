@@ -41,13 +41,13 @@ fn what_is_found_says_whose_it_is() {
     let bytes = records(0x1303, 17, 600, [40, 30]);
     let sample = Sample::of(&sealed_in(&bytes));
     let keys = log(20, 32);
-    let found = Search::default().find(&keys, &[None, sample], &Known::Nothing).ok().unwrap();
+    let found = Search::default().find(&keys, &[None, sample], &Given::Nothing).ok().unwrap();
     assert_eq!((found.side, found.role, found.number, found.updates), (1, SERVER, 601, 0));
     assert_eq!((found.random[31], found.suite.code), (17, 0x1303));
-    let other = |random, role| Known::Other(&Found { random, role, ..found.clone() }).has(&found.random, SERVER);
+    let other = |random, role| Given::Other(&Found { random, role, ..found.clone() }).has(&found.random, SERVER);
     assert!(other(found.random, CLIENT) && !other(found.random, SERVER) && !other([0; 32], CLIENT));
     let of_client = Found { role: CLIENT, ..found.clone() };
-    let again = Search::default().find(&keys, &[sample, None], &Known::Other(&of_client)).ok().unwrap();
+    let again = Search::default().find(&keys, &[sample, None], &Given::Other(&of_client)).ok().unwrap();
     assert_eq!((again.side, again.number), (0, 601));
 }
 
@@ -118,7 +118,7 @@ fn speed_of_a_search() {
         let keys = log(count as usize, length);
         for (what, sample) in [("pair", Sample::of(&records)), ("alone", Sample::of(&records[..1]))] {
             let mut search = Search::new(1 << 20, 1000);
-            let found = search.find(&keys, &[sample, None], &Known::Nothing).ok().unwrap();
+            let found = search.find(&keys, &[sample, None], &Given::Nothing).ok().unwrap();
             assert_eq!(found.number, at);
             println!("0x{code:x} {count} secrets, record {at}, {what}: {:?}", search.spent);
         }
