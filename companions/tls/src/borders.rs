@@ -181,13 +181,15 @@ mod tests {
         begun.elapsed()
     }
 
-    /// Each place is looked at once: eight times the bytes take far less than 64 times as long.
+    /// Each place is looked at once: sixteen times the bytes take far less than 256 times as long, at the best of some
+    /// tries, since others use the machine too.
     #[test]
     fn hostile_bytes_take_linear_time() {
         for header in [[0x17, 3, 3, 0, 9], [0x17, 3, 3, 0x40, 0], [0x17, 3, 3, 0, 1], [3, 3, 0x17, 3, 3]] {
             for piece in [1, 1400] {
-                let (short, long) = (took(&header.repeat(20_000), piece), took(&header.repeat(160_000), piece));
-                assert!(long < short * 24 + Duration::from_millis(100), "{header:?} {piece} {short:?} {long:?}");
+                let best = |count: usize| (0..5).map(|_| took(&header.repeat(count), piece)).min().unwrap();
+                let (short, long) = (best(10_000), best(160_000));
+                assert!(long < short * 64 + Duration::from_millis(50), "{header:?} {piece} {short:?} {long:?}");
             }
         }
     }

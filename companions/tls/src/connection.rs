@@ -289,6 +289,9 @@ impl Connection {
         }
         self.handshake.expect_no_key();
         self.settle(shared, out, true);
+        if matches!(self.refused, Some(Reason::Tail(_))) && known.is_snapped {
+            self.refused = Some(Reason::Snapped);
+        }
         self.advance(shared, out);
         for index in [CLIENT, SERVER] {
             let first = self.queue.as_mut().and_then(|queue| {

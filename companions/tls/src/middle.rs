@@ -12,7 +12,7 @@ use crate::connection::Shared;
 use crate::handshake::Stage;
 use crate::reason::Reason;
 use crate::sample::{is_tls_1_2, sealed_in, Sample, Sealed};
-use crate::search::{Found, Known};
+use crate::search::{Found, Given};
 use crate::{CLIENT, SERVER};
 
 /// So much of a side waits at most, its segments' places counted too.
@@ -120,7 +120,8 @@ impl Middle {
     /// Settles the sides that can be tried, and those that wait no longer.
     pub fn settle(&mut self, shared: &mut Shared, is_last: bool) -> [Option<Settled>; 2] {
         let records = [CLIENT, SERVER].map(|side| self.records(side));
-        if records.iter().any(|records| is_tls_1_2(records)) {
+        let is_known = self.found.is_some() || !self.before.is_empty();
+        if !is_known && records.iter().any(|records| is_tls_1_2(records)) {
             return [(); 2].map(|()| Some(Settled::Ends(Reason::NoServerRandom)));
         }
         let ([client, server], found) = self.search(shared, &records, is_last);
@@ -146,12 +147,12 @@ impl Middle {
             if tried.iter().all(Option::is_none) {
                 return (settled, found);
             }
-            let known = match &found {
-                _ if !self.before.is_empty() => Known::Before(&self.before),
-                Some(found) => Known::Other(found),
-                None => Known::Nothing,
+            let given = match &found {
+                _ if !self.before.is_empty() => Given::Before(&self.before),
+                Some(found) => Given::Other(found),
+                None => Given::Nothing,
             };
-            match shared.search.find(&shared.keys, &tried, &known) {
+            match shared.search.find(&shared.keys, &tried, &given) {
                 Ok(opens) => {
                     let side = opens.side;
                     let sample = samples[side].take();
@@ -244,7 +245,7 @@ fn first_opened(
         let behind = (index - found.number) as usize;
         let mut samples = [None, None];
         samples[found.side] = Sample::of(&records[..behind]);
-        let earlier = shared.search.find(&shared.keys, &samples, &Known::Later(&found));
+        let earlier = shared.search.find(&shared.keys, &samples, &Given::Later(&found));
         match (earlier, samples[found.side]) {
             (Ok(earlier), Some(sample)) => (found, index) = (earlier, sample.index),
             _ => {

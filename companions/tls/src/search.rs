@@ -13,14 +13,14 @@ use crate::key_log::Keys;
 use crate::protection::Opener;
 use crate::reason::Reason;
 use crate::sample::{Sample, Sealed};
-use crate::suites::Suite;
+use crate::suites::{Mode, Suite};
 use entries::{entries_of, Entry};
 
 mod entries;
 #[cfg(test)]
 mod tests;
 
-pub use entries::{Found, Known};
+pub use entries::{Found, Given};
 
 const MOST_NUMBERS: u64 = 1 << 20;
 const MOST_SECONDS: u64 = 60;
@@ -30,6 +30,8 @@ pub const MOST_UPDATES: u32 = 4;
 const SHARE: u32 = 4;
 /// So many numbers of all secrets are tried first; of secrets of handshakes there are no more.
 const FIRST_NUMBERS: u64 = 1 << 9;
+/// GCM is by far the most frequent, and faster to try than ChaCha20: its numbers are this many doublings ahead.
+const LAG: usize = 3;
 
 /// How far is searched, and how much time that took by now.
 pub struct Search {
@@ -53,17 +55,31 @@ impl Search {
     }
 
     /// What opens a record of one of two sides.
-    pub fn find(&mut self, keys: &Keys, samples: &[Option<Sample<'_>>; 2], known: &Known<'_>) -> Result<Found, Reason> {
+    pub fn find(&mut self, keys: &Keys, samples: &[Option<Sample<'_>>; 2], given: &Given<'_>) -> Result<Found, Reason> {
         let begun = Instant::now();
         let left = Duration::from_secs(self.seconds).saturating_sub(self.spent) / SHARE;
         let (numbers, seconds) = (self.numbers, self.seconds);
+        if left.is_zero() {
+            return Err(Reason::SearchedSeconds(seconds));
+        }
         let found = match Bench::new() {
-            Ok(bench) => Attempt { bench, room: Vec::new(), samples, begun, left, numbers, seconds }.find(keys, known),
+            Ok(bench) => Attempt { bench, room: Vec::new(), samples, begun, left, numbers, seconds }.find(keys, given),
             Err(_) => Err(Reason::NoKey),
         };
         self.spent += begun.elapsed();
         found
     }
+}
+
+/// All numbers, in ranges of which each has as many as all before it.
+fn waves(numbers: u64) -> Vec<Range<u64>> {
+    let mut waves = Vec::new();
+    let (mut from, mut to) = (0, FIRST_NUMBERS.min(numbers));
+    while from < to {
+        waves.push(from..to);
+        (from, to) = (to, to.saturating_mul(2).min(numbers));
+    }
+    waves
 }
 
 /// One search.
@@ -78,17 +94,17 @@ struct Attempt<'a> {
 }
 
 impl Attempt<'_> {
-    fn find(&mut self, keys: &Keys, known: &Known<'_>) -> Result<Found, Reason> {
-        let mut entries = entries_of(keys, known);
+    fn find(&mut self, keys: &Keys, given: &Given<'_>) -> Result<Found, Reason> {
+        let mut entries = entries_of(keys, given);
         if entries.is_empty() {
             return Err(Reason::NoKey);
         }
-        for updates in 0..known.updates().end {
+        for updates in 0..given.updates().end {
             if updates > 0 {
                 entries.retain(|entry| entry.stage == Stage::Traffic);
                 entries.iter_mut().for_each(Entry::update);
             }
-            if known.updates().contains(&updates) {
+            if given.updates().contains(&updates) {
                 if let Some(found) = self.find_among(&entries)? {
                     return Ok(found);
                 }
@@ -98,16 +114,19 @@ impl Attempt<'_> {
     }
 
     fn find_among(&mut self, entries: &[Entry]) -> Result<Option<Found>, Reason> {
-        let (mut from, mut to) = (0, FIRST_NUMBERS.min(self.numbers));
-        while from < to {
-            for entry in entries.iter().filter(|entry| entry.stage == Stage::Traffic || from == 0) {
-                for suite in &entry.suites {
-                    if let Some(found) = self.find_by(entry, suite, from..to)? {
+        let waves = waves(self.numbers);
+        for turn in 0..waves.len() + LAG {
+            for (entry, suite) in entries.iter().flat_map(|entry| entry.suites.iter().map(move |suite| (entry, suite)))
+            {
+                let lag = if suite.mode == Mode::Gcm { 0 } else { LAG };
+                let wave = turn.checked_sub(lag).and_then(|place| waves.get(place));
+                let wave = wave.filter(|wave| entry.stage == Stage::Traffic || wave.start == 0);
+                if let Some(wave) = wave {
+                    if let Some(found) = self.find_by(entry, suite, wave.clone())? {
                         return Ok(Some(found));
                     }
                 }
             }
-            (from, to) = (to, to.saturating_mul(2).min(self.numbers));
         }
         Ok(None)
     }
@@ -147,7 +166,7 @@ impl Attempt<'_> {
                 return Err(Reason::SearchedSeconds(self.seconds));
             }
             self.bench.numbers.clear();
-            self.bench.numbers.extend(from..numbers.end.min(from + MOST_AT_ONCE as u64));
+            self.bench.numbers.extend(from..numbers.end.min(from.saturating_add(MOST_AT_ONCE as u64)));
             filter.keep(&mut self.bench, &entry.keys).map_err(|_| Reason::CipherSuite(suite.code))?;
             if let Some(number) = self.proved(entry, suite, record, &mut opener) {
                 return Ok(Some(number));

@@ -26,38 +26,38 @@ pub struct Found {
     pub number: u64,
 }
 
-/// What is known before.
-pub enum Known<'a> {
+/// What is known before a search.
+pub enum Given<'a> {
     Nothing,
     /// What opens the other side.
     Other(&'a Found),
     /// What opens a later record of the side, behind a key update.
     Later(&'a Found),
-    /// What opened the next record of each side, before some of it were lost.
+    /// What opened the next record of each side, or of one, before some were lost.
     Before(&'a [Found]),
 }
 
-impl Known<'_> {
+impl Given<'_> {
     pub fn has(&self, random: &Random, role: usize) -> bool {
         match self {
-            Known::Nothing => true,
-            Known::Other(found) => found.random == *random && found.role != role,
-            Known::Later(found) => found.random == *random && found.role == role,
-            Known::Before(_) => false,
+            Given::Nothing => true,
+            Given::Other(found) => found.random == *random && found.role != role,
+            Given::Later(found) => found.random == *random && found.role == role,
+            Given::Before(_) => false,
         }
     }
 
     fn has_suite(&self, suite: &Suite) -> bool {
         match self {
-            Known::Other(found) | Known::Later(found) => found.suite.code == suite.code,
-            Known::Nothing | Known::Before(_) => true,
+            Given::Other(found) | Given::Later(found) => found.suite.code == suite.code,
+            Given::Nothing | Given::Before(_) => true,
         }
     }
 
     /// How many updates are tried.
     pub fn updates(&self) -> Range<u32> {
         match self {
-            Known::Later(found) => found.updates.saturating_sub(1)..found.updates,
+            Given::Later(found) => found.updates.saturating_sub(1)..found.updates,
             _ => 0..MOST_UPDATES + 1,
         }
     }
@@ -105,19 +105,24 @@ impl Entry {
 }
 
 /// The secrets that may have protected a record, each with the keys of one length.
-pub fn entries_of(keys: &Keys, known: &Known<'_>) -> Vec<Entry> {
-    if let Known::Before(found) = known {
-        return found.iter().map(Entry::of).collect();
-    }
+pub fn entries_of(keys: &Keys, given: &Given<'_>) -> Vec<Entry> {
     let mut entries = Vec::new();
+    if let Given::Before(found) = given {
+        entries.extend(found.iter().map(Entry::of));
+        if let [found] = found {
+            let side = Some(1 - found.side);
+            entries.extend(entries_of(keys, &Given::Other(found)).into_iter().map(|entry| Entry { side, ..entry }));
+        }
+        return entries;
+    }
     for (random, label, secret) in keys.with(&OF_SIDES.concat()) {
         let role = if OF_SIDES[CLIENT].contains(&label) { CLIENT } else { SERVER };
-        if !known.has(random, role) {
+        if !given.has(random, role) {
             continue;
         }
         let is_handshake = matches!(label, Label::ClientHandshake | Label::ServerHandshake);
         let stage = if is_handshake { Stage::Handshake } else { Stage::Traffic };
-        let suites: Vec<Suite> = suites_of_secret(secret.len()).filter(|suite| known.has_suite(suite)).collect();
+        let suites: Vec<Suite> = suites_of_secret(secret.len()).filter(|suite| given.has_suite(suite)).collect();
         for suites in by_keys(&suites) {
             let (secret, keys) = (secret.to_vec(), traffic_keys(&suites[0], secret));
             entries.push(Entry { random: *random, role, stage, suites, secret, keys, updates: 0, from: 0, side: None });

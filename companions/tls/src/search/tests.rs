@@ -1,6 +1,5 @@
 use super::*;
 use crate::key_schedule::{traffic_keys, TrafficKeys};
-use crate::records::HEADER_LENGTH;
 use crate::sample::sealed_in;
 use crate::sealing::Sealer;
 use crate::{CLIENT, SERVER};
@@ -26,19 +25,29 @@ fn records(code: u16, number: u64, at: u64, lengths: [usize; 2]) -> Vec<u8> {
     lengths.iter().flat_map(|length| sealer.data(&vec![1; length - 17])).collect()
 }
 
+#[test]
+fn waves_are_all_numbers() {
+    for numbers in [0, 1, 511, 512, 513, 5000, 1 << 20, u64::MAX] {
+        let waves = waves(numbers);
+        assert_eq!(waves.iter().map(|wave| wave.end - wave.start).sum::<u64>(), numbers);
+        assert!(waves.windows(2).all(|pair| pair[0].end == pair[1].start));
+        assert!(waves.len() < 60);
+    }
+}
+
 /// Both sides are searched, by the secrets of clients and servers, and one that is found leaves its own to the other.
 #[test]
 fn what_is_found_says_whose_it_is() {
     let bytes = records(0x1303, 17, 600, [40, 30]);
     let sample = Sample::of(&sealed_in(&bytes));
     let keys = log(20, 32);
-    let found = Search::default().find(&keys, &[None, sample], &Known::Nothing).ok().unwrap();
+    let found = Search::default().find(&keys, &[None, sample], &Given::Nothing).ok().unwrap();
     assert_eq!((found.side, found.role, found.number, found.updates), (1, SERVER, 601, 0));
     assert_eq!((found.random[31], found.suite.code), (17, 0x1303));
-    let other = |random, role| Known::Other(&Found { random, role, ..found.clone() }).has(&found.random, SERVER);
+    let other = |random, role| Given::Other(&Found { random, role, ..found.clone() }).has(&found.random, SERVER);
     assert!(other(found.random, CLIENT) && !other(found.random, SERVER) && !other([0; 32], CLIENT));
     let of_client = Found { role: CLIENT, ..found.clone() };
-    let again = Search::default().find(&keys, &[sample, None], &Known::Other(&of_client)).ok().unwrap();
+    let again = Search::default().find(&keys, &[sample, None], &Given::Other(&of_client)).ok().unwrap();
     assert_eq!((again.side, again.number), (0, 601));
 }
 
@@ -91,20 +100,27 @@ fn rate_of_tags(wrong: &Sealer, keys: &TrafficKeys, bytes: &[u8]) -> f64 {
     TRIES as f64 / begun.elapsed().as_secs_f64()
 }
 
-/// The whole of a search: 50 servers, of which the last one is meant, at its 100,000th record.
+/// The whole of a search: a log of so many servers, of which the last one is meant, at a record of this number. Secrets of
+/// 32 bytes are tried with AES and with ChaCha20.
 #[test]
 #[ignore = "measures"]
 fn speed_of_a_search() {
-    for (code, length) in [(0x1301, 32), (0x1302, 48), (0x1303, 32)] {
-        let bytes = records(code, 49, 99_999, [30, 1400]);
+    for (code, count, at) in [
+        (0x1301, 50, 99_999),
+        (0x1302, 50, 99_999),
+        (0x1303, 50, 99_999),
+        (0x1302, 10_000, 2_000),
+        (0x1302, 10_000, 100),
+    ] {
+        let length = if code == 0x1302 { 48 } else { 32 };
+        let bytes = records(code, count - 1, at, [30, 1400]);
         let records = sealed_in(&bytes);
-        let (pair, alone) = (Sample::of(&records), Sample::of(&records[..1]));
-        assert_eq!(bytes.len(), 30 + 1400 + 2 * HEADER_LENGTH);
-        for (what, sample) in [("pair", pair), ("alone", alone)] {
-            let mut search = Search::default();
-            let found = search.find(&log(50, length), &[sample, None], &Known::Nothing).ok().unwrap();
-            assert_eq!(found.number, 99_999);
-            println!("0x{code:x} {what}: {:?}", search.spent);
+        let keys = log(count as usize, length);
+        for (what, sample) in [("pair", Sample::of(&records)), ("alone", Sample::of(&records[..1]))] {
+            let mut search = Search::new(1 << 20, 1000);
+            let found = search.find(&keys, &[sample, None], &Given::Nothing).ok().unwrap();
+            assert_eq!(found.number, at);
+            println!("0x{code:x} {count} secrets, record {at}, {what}: {:?}", search.spent);
         }
     }
 }

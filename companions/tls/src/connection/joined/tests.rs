@@ -64,6 +64,21 @@ fn read(shared: &mut Shared, segments: &[(usize, &[u8])]) -> (Plain, Connection)
     (plain, connection)
 }
 
+/// Packets that are not whole leave no whole record.
+#[test]
+fn snapped_packets() {
+    let mut shared = shared(&[1; 48], &[2; 48]);
+    let record = Sealer::new(0x1302, 1).data(&text(500));
+    for (is_snapped, wanted) in [(false, Reason::Tail(30)), (true, Reason::Snapped)] {
+        let mut connection = Connection::from_middle(0, &shared);
+        let arrival = Arrival { packet: 1, nanos: 0 };
+        connection.segment(&mut shared, &mut Plain::default(), CLIENT, 0, &record[..30], arrival);
+        connection.segment(&mut shared, &mut Plain::default(), CLIENT, 500, &record[..30], arrival);
+        connection.finish(&mut shared, &mut Plain::default(), &Known { is_snapped, ..KNOWN });
+        assert_eq!(connection.refused(), Some(wanted));
+    }
+}
+
 /// Text of so many bytes that differs from place to place.
 fn text(length: usize) -> Vec<u8> {
     (0..length).map(|at| (at * 31 % 251) as u8).collect()
@@ -167,7 +182,7 @@ fn the_bound_of_time() {
         assert_eq!(read(&mut shared, &[(SERVER, &down)]).1.refused(), Some(Reason::SearchedSeconds(1)));
     }
     let took = begun.elapsed();
-    assert!((Duration::from_millis(900)..Duration::from_millis(2500)).contains(&took), "{took:?}");
+    assert!((Duration::from_millis(900)..Duration::from_secs(5)).contains(&took), "{took:?}");
     shared.keys.add_text(line("SERVER_TRAFFIC_SECRET_0", 7, &server.secret).as_bytes());
     assert_eq!(read(&mut shared, &[(SERVER, &down)]).1.refused(), Some(Reason::SearchedSeconds(1)));
     shared.search = Search::new(100, 1);
@@ -223,6 +238,19 @@ fn tls_1_2_is_refused_by_name() {
     assert_eq!(refused(&[of_data(76, 9), by_chance].concat()), Some(Reason::SearchedNumbers(100)));
 }
 
+/// Once a side is opened, nothing in the clear makes the connection another version.
+#[test]
+fn a_version_that_is_known_stays() {
+    let (mut client, mut server) = (Sealer::new(0x1302, 1), Sealer::new(0x1302, 2));
+    let mut shared = shared_of(&client, &server);
+    let down: Vec<_> = (0..3).map(|at| server.data(&[at])).collect();
+    let up = [client.data(b"said"), record_of_1_2(HANDSHAKE, 1, 40)].concat();
+    let (plain, connection) = read(&mut shared, &[(SERVER, &down[..2].concat()), (CLIENT, &up), (SERVER, &down[2])]);
+    assert_eq!((plain.of(CLIENT), plain.of(SERVER)), (b"said".to_vec(), vec![0, 1, 2]));
+    assert_eq!(connection.side(CLIENT).end().map(|(why, _)| why), Some(Reason::NotTls));
+    assert_eq!((connection.refused(), connection.side(SERVER).end()), (None, None));
+}
+
 /// The capture begins within the handshake: the secrets of handshakes open it, and then those of traffic.
 #[test]
 fn from_within_the_handshake() {
@@ -245,8 +273,9 @@ fn behind_lost_records() {
         let mut shared = Shared { search: Search::new(200, 60), ..shared_of(&client, &server) };
         let (up, down) =
             ([client.data(b"a"), client.data(b"b")].concat(), [server.data(b"c"), server.update()].concat());
-        let (_, first) = read(&mut shared, &[(CLIENT, &up), (SERVER, &[&down[..], &server.data(b"d")].concat())]);
-        assert_eq!(first.count(), 4);
+        let more: Vec<_> = (0..40).flat_map(|_| server.data(b"d")).collect();
+        let (_, first) = read(&mut shared, &[(CLIENT, &up), (SERVER, &[down, more].concat())]);
+        assert_eq!(first.count(), 43);
         (client.number, server.number) = (190, 150);
         (0..updates).for_each(|_| server.skip_to_update());
         let down = [server.data(b"lost"), server.data(b"e"), server.data(b"f")].concat();
@@ -260,6 +289,35 @@ fn behind_lost_records() {
         assert_eq!(connection.client(), Some(CLIENT));
     }
     assert!(Connection::from_middle(0, &Shared::default()).behind_loss(1, &Shared::default()).is_none());
+}
+
+/// A side of which nothing was read before is known by its connection.
+#[test]
+fn behind_lost_records_of_one_side() {
+    let (mut client, mut server) = (Sealer::new(0x1301, 1), Sealer::new(0x1301, 2));
+    let mut shared = shared_of(&client, &server);
+    let (_, first) = read(&mut shared, &[(CLIENT, &[client.data(b"a"), client.data(b"b")].concat())]);
+    (client.number, server.number) = (20, 30);
+    let (up, down) = (client.data(b"c"), [server.data(b"d"), server.data(b"e")].concat());
+    let (mut plain, mut connection) = (Plain::default(), first.behind_loss(1, &shared).unwrap());
+    for (side, data) in [(SERVER, &down), (CLIENT, &up)] {
+        connection.segment(&mut shared, &mut plain, side, 0, data, Arrival { packet: 1, nanos: 0 });
+    }
+    assert_eq!((plain.of(SERVER), plain.of(CLIENT)), (b"de".to_vec(), b"c".to_vec()));
+}
+
+/// What waited together is told in the order in which it came.
+#[test]
+fn both_sides_keep_their_order() {
+    let (mut client, mut server) = (Sealer::new(0x1301, 1), Sealer::new(0x1301, 2));
+    let mut shared = shared_of(&client, &server);
+    let down = [server.data(b"cut"), server.data(&text(30)), server.data(&text(30))].concat();
+    let (up, half) = (client.data(b"c"), 30);
+    let segments = [(SERVER, &down[1..half]), (CLIENT, &up[..]), (SERVER, &down[half..100]), (SERVER, &down[100..])];
+    let (plain, connection) = read(&mut shared, &segments);
+    let order: Vec<_> = plain.0.iter().map(|(side, _, packet)| (*side, *packet)).collect();
+    assert_eq!(order, [(CLIENT, 2), (SERVER, 3), (SERVER, 4)]);
+    assert_eq!(connection.side(SERVER).skipped(), 24);
 }
 
 #[test]
@@ -322,8 +380,9 @@ fn hostile_records_take_linear_time() {
             read(&mut shared, &segments);
             begun.elapsed()
         };
-        let (short, long) = (took(2000), took(16_000));
-        assert!(long < short * 24 + Duration::from_millis(100), "{short:?} {long:?}");
+        let best = |count| (0..3).map(|_| took(count)).min().unwrap();
+        let (short, long) = (best(1000), best(16_000));
+        assert!(long < short * 64 + Duration::from_millis(50), "{short:?} {long:?}");
     }
 }
 
