@@ -104,7 +104,7 @@ impl Learned {
     }
 
     /// Takes the payload of a record; the frames that it completes go into the log.
-    fn take(&mut self, came: &Came, payload: &Payload<'_>, log: &mut FrameLog) -> io::Result<()> {
+    pub fn take(&mut self, came: &Came, payload: &Payload<'_>, log: &mut FrameLog) -> io::Result<()> {
         if payload.octets.is_empty() || self.sides[import::CLIENT].cutter.is_other() {
             return Ok(());
         }
