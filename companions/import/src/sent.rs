@@ -1,7 +1,7 @@
 //! Which bytes a side has sent, so that those that come again are told from new ones, and packets that were captured
 //! twice from either.
 
-use std::collections::{BTreeMap, VecDeque};
+use std::collections::BTreeMap;
 
 use captures::{flags, offset_of, Arrival, Segment, END_OF_OFFSETS};
 
@@ -33,8 +33,9 @@ pub struct Sent {
     reached: u32,
     /// Holes before that: begin and end of each.
     holes: BTreeMap<u32, u32>,
-    /// The last packets, each with its time and its print.
-    recent: VecDeque<(i64, u64)>,
+    /// The last packets, each with its time and its print, in a ring; and where in it the last one stands.
+    recent: Vec<(i64, u64)>,
+    latest: usize,
     /// The offset up to which the other side acknowledged, and the longest payload.
     acknowledged: u32,
     longest: u32,
@@ -95,7 +96,7 @@ impl Sent {
 
     /// The time of the last segment with payload.
     pub fn last(&self) -> Option<i64> {
-        self.recent.back().map(|(nanos, _)| *nanos)
+        self.recent.get(self.latest).map(|(nanos, _)| *nanos)
     }
 
     pub fn add(&mut self, arrival: Arrival, segment: &Segment<'_>) -> Fresh {
@@ -141,10 +142,13 @@ impl Sent {
     }
 
     fn note(&mut self, arrival: Arrival, print: u64) {
-        if self.recent.len() == MOST_BETWEEN {
-            self.recent.pop_front();
+        if self.recent.len() < MOST_BETWEEN {
+            self.latest = self.recent.len();
+            self.recent.push((arrival.nanos, print));
+        } else {
+            self.latest = (self.latest + 1) % MOST_BETWEEN;
+            self.recent[self.latest] = (arrival.nanos, print);
         }
-        self.recent.push_back((arrival.nanos, print));
     }
 
     /// Notes bytes from one offset to another, and answers how many of them are new.
