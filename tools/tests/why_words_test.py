@@ -63,6 +63,30 @@ class Words(OnCaptures):
         self.assertTrue(all(line[:1] != "G" for line in lines))
         self.assertGreater(len(lines), len(ran(self.EXAMPLE).stdout.decode().splitlines()))
 
+    def test_progress(self) -> None:
+        """After two seconds a terminal shows how far the work is, also behind the import; all else shows nothing."""
+        capture = self.EXAMPLE.read_bytes()
+        leader, follower = pty.openpty()
+        words = [WHY, "--quiet", "-"]
+        with (
+            subprocess.Popen(words, stdin=subprocess.PIPE, stderr=follower) as shown,
+            subprocess.Popen(words, stdin=subprocess.PIPE, stderr=subprocess.PIPE) as silent,
+        ):
+            os.close(follower)
+            for child in (shown, silent):
+                assert child.stdin
+                child.stdin.write(capture[:1000])
+                child.stdin.flush()
+            time.sleep(2.1)
+            self.assertEqual(silent.communicate(capture[1000:], 30), (None, b""))
+            shown.communicate(capture[1000:], 30)
+        said = b""
+        with contextlib.suppress(OSError):
+            while part := os.read(leader, 1000):
+                said += part
+        os.close(leader)
+        self.assertRegex(said, rb"^\rh2audit-why: \d+ % explained *\r +\r$")
+
     def test_standard_input(self) -> None:
         octets = self.EXAMPLE.read_bytes()
         named = ran(self.EXAMPLE)

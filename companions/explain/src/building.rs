@@ -132,7 +132,7 @@ fn make(asked: &Asked<'_>, keeping: Option<Keeping>) -> Result<(Made, Option<Kee
 }
 
 /// Goes on with connections whose server sent bytes before its initial sequence number was known.
-fn place_early(connections: &mut [Option<Box<Learned>>], log: &mut FrameLog) -> io::Result<()> {
+pub fn place_early(connections: &mut [Option<Box<Learned>>], log: &mut FrameLog) -> io::Result<()> {
     if !connections.iter().flatten().any(|one| one.is_early()) {
         return Ok(());
     }

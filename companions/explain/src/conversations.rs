@@ -11,10 +11,11 @@ use crate::answer::{
 };
 use crate::audit::{read_audits, Audit};
 use crate::blocks::Names;
+use crate::building::place_early;
 use crate::connection::Connection;
 use crate::cutter::{flag, kind, PREFACE};
-use crate::learning::Learned;
-use crate::made::Record;
+use crate::frame_log::{Came, Found, FrameLog, Payload};
+use crate::learning::{Known, Learned};
 use crate::names::Interner;
 use crate::table::Numbers;
 use crate::telling::unsaid;
@@ -41,12 +42,14 @@ fn data(stream: u32, more: u8, length: usize) -> Vec<u8> {
 struct Talk {
     records: Vec<(usize, Nanos, Vec<u8>)>,
     has_names: bool,
+    /// Whether the server's SYN ACK was captured behind all of them.
+    is_late: bool,
 }
 
 impl Talk {
     /// Both sides have begun.
     fn new() -> Talk {
-        let mut talk = Talk { records: Vec::new(), has_names: true };
+        let mut talk = Talk { records: Vec::new(), has_names: true, is_late: false };
         talk.say(CLIENT, 10, &[PREFACE.to_vec(), frame(kind::SETTINGS, 0, 0, &[])]);
         talk.say(SERVER, 10, &[frame(kind::SETTINGS, 0, 0, &[])]);
         talk
@@ -56,29 +59,37 @@ impl Talk {
         self.records.push((side, millis * MS, frames.concat()));
     }
 
-    fn known(&self) -> Learned {
+    /// What the first walk learns, and the frames that it leaves.
+    fn known(&self) -> (Known, FrameLog) {
         let opened = At { packet: 1, time: 0, frame: 0 };
-        let mut learned = Learned::new(1, opened, 0);
-        learned.met(2, At { packet: 2, ..opened }, SERVER, (0, flags::SYN | flags::ACK));
-        self.each(|record| {
-            learned.met(record.number, record.at, record.side, (record.sequence, record.flags));
-            learned.take(record.number, record.at, record.side, (record.sequence, record.flags), record.payload);
-        });
-        learned
-    }
-
-    fn each(&self, mut take: impl FnMut(&Record<'_>)) {
-        let mut sent = [1, 1];
-        for ((side, time, payload), number) in self.records.iter().zip(4..) {
-            let at = At { packet: number, time: *time, frame: 0 };
-            take(&Record { number, at, connection: 0, side: *side, sequence: sent[*side], flags: flags::ACK, payload });
-            sent[*side] += payload.len() as u32;
+        let (mut learned, mut log) = (Box::new(Learned::new(1, opened, 0)), FrameLog::new().expect("a file"));
+        let syn_ack = |learned: &mut Learned, time: Nanos| {
+            learned.met(2, At { packet: 2, time, frame: 0 }, SERVER, (0, flags::SYN | flags::ACK));
+        };
+        if !self.is_late {
+            syn_ack(&mut learned, 0);
         }
+        let mut sent = [1, 1];
+        for ((side, time, octets), record) in self.records.iter().zip(4..) {
+            let at = At { packet: record, time: *time, frame: 0 };
+            let came = Came { record, at, connection: 0, side: *side };
+            let payload = Payload { sequence: sent[*side], flags: flags::ACK, octets };
+            learned.met(record, at, *side, (payload.sequence, payload.flags));
+            learned.take(&came, &payload, &mut log).expect("room");
+            sent[*side] += octets.len() as u32;
+        }
+        if self.is_late {
+            syn_ack(&mut learned, self.records.last().map_or(0, |record| record.1));
+        }
+        let mut all = [Some(learned)];
+        place_early(&mut all, &mut log).expect("room");
+        let [learned] = all;
+        (learned.expect("a connection").known(), log)
     }
 
     /// What is said of it beside these lines of a report.
     fn told(&self, report: &[&str]) -> Result<ConnectionSaid, Failure> {
-        let known = self.known().known();
+        let (known, mut log) = self.known();
         let audit = self.audit(known.frames, report);
         let mut courses = Courses::default();
         let last = self.records.last().map_or(0, |record| record.1);
@@ -93,17 +104,15 @@ impl Talk {
             live: Rc::default(),
         };
         let mut said = unsaid(1, String::new(), String::new(), known.opened);
-        let mut connection = Connection::new(known, audit, &mut courses.connections[0], &asking)?;
-        let mut taken = Ok(());
-        self.each(|record| {
-            if taken.is_ok() {
-                taken = connection.take(&mut asking, record);
+        let mut connection = Connection::new(Box::new(known), audit, &mut courses.connections[0], &asking)?;
+        let mut reader = log.reader().expect("a file");
+        while let Some(entry) = reader.next().expect("an entry") {
+            if let Found::Frames(frames) = &entry.found {
+                connection.take(&mut asking, &entry.came, frames)?;
                 connection.park();
             }
-        });
-        taken?;
-        let (packed, seen) = connection.end(&mut said)?;
-        said.requests = Requests::of(packed, seen);
+        }
+        said.requests = Requests::of(connection.end(&mut said)?);
         said.requests.with_texts(&Rc::new(asking.interner.into_texts()));
         Ok(said)
     }
@@ -140,6 +149,19 @@ fn shares(request: &Request, side: usize) -> Vec<(&'static str, Nanos)> {
     assert_eq!(said.shares.iter().sum::<Nanos>(), said.nanos);
     let all = Share::ALL.iter().zip(said.shares).filter(|share| share.1 != 0);
     all.map(|(share, nanos)| (share.name(), nanos / MS)).collect()
+}
+
+#[test]
+fn bytes_before_their_initial_number() {
+    let mut talk = Talk::new();
+    talk.say(CLIENT, 20, &[headers(1, flag::END_STREAM, GET)]);
+    let answer = [headers(1, 0, OK), data(1, flag::END_STREAM, 100)].concat();
+    talk.say(SERVER, 50, &[answer[..20].to_vec()]);
+    talk.say(SERVER, 60, &[answer[20..].to_vec()]);
+    let requests = talk.requests(&[]);
+    assert_eq!((requests.len(), requests[0].status, requests[0].sides[SERVER].content), (1, Some(200), 100));
+    talk.is_late = true;
+    assert_eq!(talk.requests(&[]), requests);
 }
 
 #[test]
@@ -298,7 +320,7 @@ fn times_that_go_back() {
     talk.records.push((CLIENT, 95 * MS, frame(kind::PING, 0, 0, &[0; 8])));
     let one = &talk.requests(&STALL)[0];
     assert_eq!(shares(one, SERVER), [("waiting", 10), ("stream_stall", 60), ("idle", 10)]);
-    assert_eq!(talk.known().known().back, Some((10, 10)));
+    assert_eq!(talk.known().0.back, Some((10, 10)));
     talk.records[3].1 = 10 * MS;
     let early = STALL[0].replace("30000000", "10000000");
     let one = &talk.requests(&[&early, STALL[1]])[0];

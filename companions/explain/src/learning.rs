@@ -110,7 +110,7 @@ impl Learned {
     }
 
     /// Takes the payload of a record; the frames that it completes go into the log.
-    fn take(&mut self, came: &Came, payload: &Payload<'_>, log: &mut FrameLog) -> io::Result<()> {
+    pub fn take(&mut self, came: &Came, payload: &Payload<'_>, log: &mut FrameLog) -> io::Result<()> {
         if payload.octets.is_empty() || self.sides[import::CLIENT].cutter.is_other() {
             return Ok(());
         }
@@ -125,7 +125,9 @@ impl Learned {
     pub fn place(&mut self, came: &Came, payload: &Payload<'_>, log: &mut FrameLog) -> io::Result<()> {
         let Payload { sequence, flags, octets } = *payload;
         match self.initials[came.side].and_then(|initial| placed(initial, sequence, flags, octets)) {
-            Some((offset, data)) if !self.sides[import::CLIENT].cutter.is_other() => self.bytes(came, offset, data, log),
+            Some((offset, data)) if !self.sides[import::CLIENT].cutter.is_other() => {
+                self.bytes(came, offset, data, log)
+            }
             _ => Ok(()),
         }
     }

@@ -51,13 +51,15 @@ pub fn pack(stream: &Stream, bytes: &mut Vec<u8>) {
     stream.sides.iter().for_each(|side| packer.direction(side));
 }
 
-/// The stream that begins here.
-pub fn unpack(bytes: &[u8], round_trip: Nanos) -> Stream {
+/// Reads the stream that begins here into the place of another one.
+pub fn unpack(bytes: &[u8], round_trip: Nanos, stream: &mut Stream) {
     let mut unpacker = Unpacker { bytes, opened: NOWHERE, last: NOWHERE };
-    let [number, order, promised_on] = [(); 3].map(|()| unpacker.small());
-    let opened = unpacker.at().unwrap_or(NOWHERE);
-    unpacker.opened = opened;
-    let request = unpacker.option(|unpacker| Asked {
+    stream.number = unpacker.small();
+    stream.order = unpacker.small();
+    stream.promised_on = unpacker.small();
+    stream.opened = unpacker.at().unwrap_or(NOWHERE);
+    unpacker.opened = stream.opened;
+    stream.request = unpacker.option(|unpacker| Asked {
         is_empty: unpacker.flag(),
         method: unpacker.small(),
         path: unpacker.small(),
@@ -68,14 +70,13 @@ pub fn unpack(bytes: &[u8], round_trip: Nanos) -> Stream {
         status: unpacker.option(Unpacker::small),
         grpc_status: unpacker.option(Unpacker::small),
     });
-    let answer = Answer { fields, grpc_status: unpacker.option(Unpacker::small) };
-    let reset = unpacker.option(|unpacker| Reset {
+    stream.answer = Answer { fields, grpc_status: unpacker.option(Unpacker::small) };
+    stream.reset = unpacker.option(|unpacker| Reset {
         side: usize::from(unpacker.flag()),
         at: unpacker.at().unwrap_or(NOWHERE),
         code: unpacker.small(),
     });
-    let sides = [unpacker.direction(round_trip), unpacker.direction(round_trip)];
-    Stream { number, order, promised_on, opened, sides, request, answer, reset }
+    stream.sides.iter_mut().for_each(|one| unpacker.direction(round_trip, one));
 }
 
 impl Packer<'_> {
@@ -255,43 +256,29 @@ impl Unpacker<'_> {
         Some(self.last)
     }
 
-    fn direction(&mut self, round_trip: Nanos) -> Direction {
-        let life = self.life();
-        let content = self.number();
-        let [first, last, end] = [(); 3].map(|()| self.at());
-        let last_credit = self.option(Unpacker::signed);
-        let is_reset = self.flag();
-        let idle = self.option(|unpacker| {
+    fn direction(&mut self, round_trip: Nanos, one: &mut Direction) {
+        self.life(&mut one.life);
+        one.content = self.number();
+        one.first = self.at();
+        one.last = self.at();
+        one.end = self.at();
+        one.last_credit = self.option(Unpacker::signed);
+        one.is_reset = self.flag();
+        one.idle = self.option(|unpacker| {
             let before = unpacker.at();
             let credit = unpacker.option(Unpacker::signed);
             Box::new(Idle { before, credit, after: unpacker.at() })
         });
-        let asked = self.at().unwrap_or(NOWHERE);
-        let asked_credit = self.option(Unpacker::signed);
-        let was_silent = self.flag();
-        let beside = self.option(Unpacker::beside).unwrap_or_default();
-        let window = self.window();
-        let granted = self.number();
+        one.asked = self.at().unwrap_or(NOWHERE);
+        one.asked_credit = self.option(Unpacker::signed);
+        one.was_silent = self.flag();
+        one.beside = self.option(Unpacker::beside).unwrap_or_default();
+        one.window = self.window();
+        one.granted = self.number();
         let unshown = self.option(|unpacker| Unshown::waiting(round_trip, unpacker.option(Unpacker::time)));
-        Direction {
-            life,
-            content,
-            first,
-            last,
-            last_credit,
-            end,
-            is_reset,
-            idle,
-            asked,
-            asked_credit,
-            was_silent,
-            beside,
-            window,
-            granted,
-            unshown: unshown.map(Box::new),
-            unshown_nanos: self.signed(),
-            kept: None,
-        }
+        one.unshown = unshown.map(Box::new);
+        one.unshown_nanos = self.signed();
+        one.kept = None;
     }
 
     fn beside(&mut self) -> Beside {
@@ -311,22 +298,21 @@ impl Unpacker<'_> {
         Window { is_live: bits & 2 != 0, was_live: true, credit, largest, first, change: self.small() }
     }
 
-    fn life(&mut self) -> Life {
-        let at = self.time();
-        let until = self.option(Unpacker::time).unwrap_or(Nanos::MAX);
+    fn life(&mut self, life: &mut Life) {
+        life.at = self.time();
+        life.until = self.option(Unpacker::time).unwrap_or(Nanos::MAX);
         let bits = self.byte();
-        let mut shares = [0; 8];
-        for (place, share) in shares.iter_mut().enumerate() {
+        for (place, share) in life.shares.iter_mut().enumerate() {
             *share = if bits & 1 << place != 0 { self.signed() } else { 0 };
         }
         let begin = self.time();
-        let longest_idle = (begin, begin.wrapping_add(self.signed()));
+        life.longest_idle = (begin, begin.wrapping_add(self.signed()));
         let bits = self.small();
-        let (has_begun, is_silent) = (bits & 1 != 0, bits & 2 != 0);
-        let (stall, count, last) = (self.small(), self.small() as u16, self.small());
-        let last = share_of(last as u8);
-        let spans = self.option(Unpacker::spans);
-        Life { at, until, shares, longest_idle, is_silent, has_begun, stall, count, last, spans }
+        (life.has_begun, life.is_silent) = (bits & 1 != 0, bits & 2 != 0);
+        life.stall = self.small();
+        life.count = self.small() as u16;
+        life.last = share_of(self.small() as u8);
+        life.spans = self.option(Unpacker::spans);
     }
 
     fn spans(&mut self) -> Vec<Span> {
@@ -381,7 +367,10 @@ mod tests {
         one.unshown = Some(Box::new(Unshown::waiting(40, Some(17))));
         let mut bytes = Vec::new();
         pack(&stream, &mut bytes);
-        assert_eq!(unpack(&bytes, 40), stream);
-        assert_eq!(unpack(&bytes[..5], 40).number, 7, "no bytes are zeros");
+        let mut found = stream.clone();
+        unpack(&bytes[..5], 40, &mut found);
+        assert_eq!((found.number, found.sides[1].content), (7, 0), "no bytes are zeros");
+        unpack(&bytes, 40, &mut found);
+        assert_eq!(found, stream);
     }
 }

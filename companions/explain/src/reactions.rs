@@ -95,7 +95,7 @@ pub struct Reactions {
     pub quickest: [Quickest; 2],
     pub acknowledged: [u32; 2],
     /// SETTINGS that wait for an acknowledgement: frame, time, and initial window.
-    settings: [VecDeque<(u32, Nanos, Option<u32>)>; 2],
+    settings: [Option<VecDeque<(u32, Nanos, Option<u32>)>>; 2],
     /// How many wait behind those.
     more_settings: [u32; 2],
     pings: HashMap<(usize, [u8; PING]), Nanos>,
@@ -106,6 +106,7 @@ pub struct Reactions {
     highest: u32,
     /// What the acknowledged SETTINGS changed the initial windows by.
     initials: [i64; 2],
+    is_settled: bool,
 }
 
 #[derive(Debug)]
@@ -173,7 +174,7 @@ fn last_of(some: &mut Vec<(i64, Nanos)>, holds: impl Fn(i64) -> bool) -> Option<
 
 impl Reactions {
     pub fn unanswered(&self) -> Vec<u32> {
-        let first = |side: usize| self.settings[side].iter().take(MOST_UNANSWERED).map(|one| one.0);
+        let first = |side: usize| self.settings[side].iter().flatten().take(MOST_UNANSWERED).map(|one| one.0);
         let mut frames: Vec<u32> = first(0).chain(first(1)).collect();
         frames.sort_unstable();
         frames.truncate(MOST_UNANSWERED);
@@ -195,7 +196,8 @@ impl Reactions {
             kind::SETTINGS if head.length % 6 == 0 => {
                 self.asked(side, (frame, time, Values::initial_window_of(cut.payload)));
             }
-            _ if self.quickest.iter().all(Quickest::is_settled) => {}
+            _ if self.is_settled => {}
+            _ if self.quickest.iter().all(Quickest::is_settled) => self.settle(),
             kind::PING => self.ping(side, cut, (began, time)),
             kind::DATA => self.content(side, cut, began),
             kind::HEADERS => self.headers(side, cut, (began, time)),
@@ -205,9 +207,18 @@ impl Reactions {
         }
     }
 
+    /// No more is looked for.
+    fn settle(&mut self) {
+        self.is_settled = true;
+        self.pings = HashMap::new();
+        self.windows = Default::default();
+        self.watched = Vec::new();
+    }
+
     fn asked(&mut self, side: usize, settings: (u32, Nanos, Option<u32>)) {
-        if self.more_settings[side] == 0 && self.settings[side].len() < MOST_SETTINGS {
-            self.settings[side].push_back(settings);
+        let waiting = self.settings[side].get_or_insert_with(|| VecDeque::with_capacity(1));
+        if self.more_settings[side] == 0 && waiting.len() < MOST_SETTINGS {
+            waiting.push_back(settings);
         } else {
             self.more_settings[side] += 1;
         }
@@ -217,7 +228,9 @@ impl Reactions {
     /// force.
     fn acknowledge(&mut self, side: usize, began: Nanos) {
         let other = 1 - side;
-        if let Some((_, asked, initial)) = self.settings[other].pop_front() {
+        let waiting = &mut self.settings[other];
+        if let Some((_, asked, initial)) = waiting.as_mut().and_then(VecDeque::pop_front) {
+            *waiting = waiting.take().filter(|some| !some.is_empty());
             self.acknowledged[other] += 1;
             self.quickest[side].add(Reaction::Settings, asked, began);
             self.changed(side, initial);
@@ -344,14 +357,15 @@ mod tests {
 
     #[test]
     fn settings_that_wait() {
+        let waiting = |reactions: &Reactions| reactions.settings[0].as_ref().map_or(0, VecDeque::len);
         let mut reactions = Reactions::default();
         (0..5000).for_each(|frame| reactions.asked(0, (frame, 0, Some(1))));
-        assert_eq!((reactions.settings[0].len(), reactions.more_settings[0]), (MOST_SETTINGS, 904));
+        assert_eq!((waiting(&reactions), reactions.more_settings[0]), (MOST_SETTINGS, 904));
         assert_eq!(reactions.unanswered(), (0..8).collect::<Vec<u32>>());
         (0..MOST_SETTINGS).for_each(|_| reactions.acknowledge(1, 7));
         assert_eq!(reactions.initials[1], 1 - FIRST_CREDIT);
         reactions.asked(0, (5000, 0, Some(1)));
-        assert_eq!((reactions.settings[0].len(), reactions.more_settings[0]), (0, 905), "behind all that wait");
+        assert_eq!((waiting(&reactions), reactions.more_settings[0]), (0, 905), "behind all that wait");
         (0..1000).for_each(|_| reactions.acknowledge(1, 1));
         assert_eq!((reactions.acknowledged[0], reactions.quickest[1].nanos()), (5001, Some(7)), "as those kept took");
         assert_eq!(reactions.initials[1], i64::from(u32::MAX) - FIRST_CREDIT);

@@ -43,14 +43,15 @@ impl Requests {
 
     pub fn get(&self, index: usize) -> Option<Request> {
         match &self.packed {
-            Some(_) => self.told(index, self.texts.as_deref()),
+            Some(_) => self.told(index, self.texts.as_deref(), &mut Stream::empty()),
             None => self.all.get(index).cloned(),
         }
     }
 
-    fn told(&self, index: usize, texts: Option<&Texts>) -> Option<Request> {
+    /// It is told from a stream that is read into some room.
+    fn told(&self, index: usize, texts: Option<&Texts>, room: &mut Stream) -> Option<Request> {
         let packed = self.packed.as_ref()?;
-        packed.0.get(index).map(|stream| told(stream, &packed.1, texts))
+        packed.0.read(index, room).then(|| told(room, &packed.1, texts))
     }
 
     /// Each one by itself, in the order of openings.
@@ -58,9 +59,11 @@ impl Requests {
         (0..self.len()).filter_map(|index| self.get(index))
     }
 
-    /// The same without names where they are packed, as a name takes as long as all else of a request.
+    /// The same without names where they are packed.
     pub fn unnamed(&self) -> impl Iterator<Item = Request> + '_ {
-        (0..self.len()).filter_map(|index| self.told(index, None).or_else(|| self.all.get(index).cloned()))
+        let mut room = Stream::empty();
+        (0..self.len())
+            .filter_map(move |index| self.told(index, None, &mut room).or_else(|| self.all.get(index).cloned()))
     }
 }
 
@@ -126,9 +129,15 @@ impl Packed {
 
     /// The stream that was opened behind so many others, if it is packed.
     pub fn get(&self, index: usize) -> Option<Stream> {
-        let (begin, length) = *self.places.get(index).filter(|place| **place != NOWHERE)?;
-        let bytes = self.bytes.get(begin as usize..)?.get(..length as usize)?;
-        Some(unpack(bytes, self.round_trip))
+        let mut stream = Stream::empty();
+        self.read(index, &mut stream).then_some(stream)
+    }
+
+    /// Reads it into the place of another one, if it is packed.
+    fn read(&self, index: usize, stream: &mut Stream) -> bool {
+        let place = self.places.get(index).filter(|place| **place != NOWHERE);
+        let bytes = place.and_then(|(begin, length)| self.bytes.get(*begin as usize..)?.get(..*length as usize));
+        bytes.map(|bytes| unpack(bytes, self.round_trip, stream)).is_some()
     }
 
     /// No more come.
@@ -140,12 +149,12 @@ impl Packed {
 }
 
 /// The request that a stream is.
-fn told(mut stream: Stream, seen: &Seen, texts: Option<&Texts>) -> Request {
-    let ends = [0, 1].map(|side| seen.end_of(&stream, side));
+fn told(stream: &mut Stream, seen: &Seen, texts: Option<&Texts>) -> Request {
+    let ends = [0, 1].map(|side| seen.end_of(stream, side));
     let time = |end: &Ended| end.at.map_or(0, |at| at.time);
     let ended = if time(&ends[1]) > time(&ends[0]) { ends[1] } else { ends[0] };
     let until = ends.iter().filter_map(|end| end.at).map(|at| at.time).fold(stream.opened.time, Nanos::max);
-    let sides = [0, 1].map(|side| direction(&mut stream, side, seen, &ends[side]));
+    let sides = [direction(stream, 0, seen, &ends[0]), direction(stream, 1, seen, &ends[1])];
     let [method, path, authority] = names(stream.request, texts);
     let fields = stream.answer.fields;
     let mut request = Request {
@@ -167,7 +176,7 @@ fn told(mut stream: Stream, seen: &Seen, texts: Option<&Texts>) -> Request {
         hung_nanos: 0,
         is_end_unseen: seen.is_end_unseen(&ended, until),
     };
-    let held = Held { seen, stream: &stream, request: &request, ends: ends.map(|end| end.how) };
+    let held = Held { seen, stream, request: &request, ends: ends.map(|end| end.how) };
     let found = held.found();
     (request.cause, request.held) = (found.cause, found.held);
     (request.is_hung, request.hung_nanos) = (found.hung.is_some(), found.hung.unwrap_or(0));

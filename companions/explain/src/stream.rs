@@ -178,6 +178,11 @@ impl Stream {
         }
     }
 
+    /// One in whose place others are read.
+    pub fn empty() -> Stream {
+        Stream::new(0, 0, At { packet: 0, time: 0, frame: 0 }, false)
+    }
+
     /// Whether both directions have ended.
     pub fn is_over(&self) -> bool {
         self.sides.iter().all(|side| side.end.is_some())

@@ -2,6 +2,7 @@
 //! of which nothing came for long are packed too.
 
 use std::cell::Cell;
+use std::cmp::Reverse;
 use std::collections::hash_map::RandomState;
 use std::collections::{HashMap, HashSet};
 use std::hash::{BuildHasher, Hasher};
@@ -10,17 +11,26 @@ use std::rc::Rc;
 use crate::answer::Nanos;
 use crate::requests::Packed;
 use crate::stream::Stream;
+use crate::windows::Initial;
 
 #[derive(Debug)]
 pub struct Table {
     live: HashMap<u32, Box<Stream>, Numbers>,
-    /// Those that go on, and are packed.
+    /// Those that go on, and are packed; and by sides their highest credits, where these are known.
     parked: HashSet<u32, Numbers>,
+    parked_highest: Cell<[Option<Highest>; 2]>,
     /// How many are not packed, of all connections.
     count: Rc<Cell<usize>>,
     packed: Packed,
     orders: Orders,
 }
+
+/// A credit, how many streams were opened before the one that has it, and that stream: of several the first is the
+/// greatest.
+type Credit = (i64, Reverse<u32>, u32);
+
+/// The highest credit of windows that have ended; and of others, beside the initial window in force.
+type Highest = [Option<Credit>; 2];
 
 /// How many streams were opened before each: by odd and even numbers, which nearly always grow.
 #[derive(Debug, Default)]
@@ -97,6 +107,7 @@ impl Table {
         Table {
             live: HashMap::with_hasher(numbers),
             parked: HashSet::with_hasher(numbers),
+            parked_highest: Cell::default(),
             count,
             packed: Packed::new(round_trip),
             orders: Orders::default(),
@@ -123,6 +134,7 @@ impl Table {
         let mut stream = self.packed.get(self.orders.of(number)? as usize)?;
         let changed = change(&mut stream);
         if self.parked.remove(&number) {
+            self.parked_highest.set(Default::default());
             self.count.set(self.count.get() + 1);
             self.live.insert(number, Box::new(stream));
         } else {
@@ -133,7 +145,8 @@ impl Table {
 
     /// Packs all that can go on from what is packed.
     pub fn park(&mut self) {
-        let Table { live, parked, count, packed, .. } = self;
+        let Table { live, parked, parked_highest, count, packed, .. } = self;
+        parked_highest.set(Default::default());
         live.retain(|number, stream| {
             let can_be = stream.sides.iter().all(|side| side.unshown.is_none() && side.kept.is_none());
             if can_be {
@@ -172,6 +185,29 @@ impl Table {
         parked.filter_map(|order| self.packed.get(order as usize)).for_each(|stream| take(&stream));
     }
 
+    /// The highest credit of those that go on, for what a side sends, and the stream that has it.
+    pub fn highest_credit(&self, side: usize, initial: &Initial) -> Option<(i64, u32)> {
+        let mut all = self.parked_highest(side);
+        self.live.values().for_each(|stream| note_credit(&mut all, side, stream));
+        let [ended, live] = all;
+        let live = live.map(|(credit, order, number)| (credit + initial.value, order, number));
+        ended.max(live).map(|(credit, _, number)| (credit, number))
+    }
+
+    /// What is parked does not change.
+    fn parked_highest(&self, side: usize) -> Highest {
+        let mut known = self.parked_highest.get();
+        let found = *known[side].get_or_insert_with(|| {
+            let mut found = Highest::default();
+            let orders = self.parked.iter().filter_map(|number| self.orders.of(*number));
+            let streams = orders.filter_map(|order| self.packed.get(order as usize));
+            streams.for_each(|stream| note_credit(&mut found, side, &stream));
+            found
+        });
+        self.parked_highest.set(known);
+        found
+    }
+
     /// Ends each stream that goes on, and packs it.
     pub fn end(mut self, mut finish: impl FnMut(&mut Stream)) -> Packed {
         self.count.set(self.count.get() - self.live.len());
@@ -187,6 +223,14 @@ impl Table {
         }
         self.packed.end();
         self.packed
+    }
+}
+
+fn note_credit(found: &mut Highest, side: usize, stream: &Stream) {
+    let one = &stream.sides[side];
+    if one.window.was_live && one.end.is_none() {
+        let highest = &mut found[usize::from(one.window.is_live)];
+        *highest = (*highest).max(Some((one.window.credit, Reverse(stream.order), stream.number)));
     }
 }
 
@@ -244,6 +288,31 @@ mod tests {
         let packed = table.end(|stream| ended.push((stream.number, stream.sides[0].content)));
         assert_eq!(ended, [(1, 0), (3, 0), (5, 7)]);
         assert_eq!(packed.get(2).map(|stream| stream.sides[0].content), Some(7));
+    }
+
+    #[test]
+    fn the_highest_credit() {
+        let (mut table, mut initial) = (table(), Initial::default());
+        for (number, more) in [(1, 1), (3, 10), (5, 10)] {
+            open(&mut table, number);
+            table.touch(number, |stream| stream.sides[1].window.open(&initial));
+            table.touch(number, |stream| stream.sides[1].window.grant(&initial, more));
+        }
+        for _ in 0..2 {
+            let found = [0, 1].map(|side| table.highest_credit(side, &initial));
+            assert_eq!(found, [None, Some((65_545, 3))]);
+            table.park();
+        }
+        initial.change(7);
+        assert_eq!(table.highest_credit(1, &initial), Some((17, 3)));
+        table.touch(1, |stream| stream.sides[1].window.grant(&initial, 100));
+        assert_eq!(table.highest_credit(1, &initial), Some((108, 1)));
+        table.park();
+        table.touch(1, |stream| stream.sides[1].window.end(&initial));
+        initial.change(0);
+        assert_eq!(table.highest_credit(1, &initial), Some((108, 1)), "it has ended by itself");
+        table.touch(1, |stream| stream.sides[1].finish_at(OPENED));
+        assert_eq!(table.highest_credit(1, &initial), Some((10, 3)));
     }
 
     #[test]

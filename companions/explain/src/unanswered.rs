@@ -1,8 +1,6 @@
 //! Settings that would take a window of the other side too high if they counted where they stand: what the capture shows,
 //! and the report cannot say by its rules (docs/WHY.md, 7).
 
-use std::cmp::Reverse;
-
 use reports::grouped;
 
 use crate::answer::At;
@@ -79,7 +77,7 @@ impl Unanswered {
         } else {
             Some(self.before[side]).filter(|_| self.frames.contains(&at.frame))
         };
-        let found = before.and_then(|before| Some((before, highest_credit(1 - side, of.0, of.1)?)));
+        let found = before.and_then(|before| Some((before, of.0.highest_credit(1 - side, of.1)?)));
         if let Some((before, (highest, stream))) = found {
             let credit = highest + i64::from(value) - before;
             if credit > MOST_CREDIT {
@@ -181,18 +179,6 @@ impl Note {
             (_, None) => String::new(),
         }
     }
-}
-
-/// The highest credit of a side's streams that go on, and the first stream that has it.
-fn highest_credit(side: usize, table: &Table, initial: &Initial) -> Option<(i64, u32)> {
-    let mut best: Option<(i64, Reverse<u32>, u32)> = None;
-    table.each_going_on(|stream| {
-        let one = &stream.sides[side];
-        if let Some(credit) = one.window.value(initial).filter(|_| one.end.is_none()) {
-            best = best.max(Some((credit, Reverse(stream.order), stream.number)));
-        }
-    });
-    best.map(|(credit, _, stream)| (credit, stream))
 }
 
 #[cfg(test)]

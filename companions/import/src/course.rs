@@ -2,7 +2,7 @@
 //! stretches of time in which TCP held back what a side sends.
 //!
 //! A segment was captured twice, and not sent again, if its side's last 32 segments with payload have one with the same
-//! bytes, as a sum of 64 bits tells, and the same IP identification or, without one, within a millisecond.
+//! bytes, as 64 bits of them tell, and the same IP identification or, without one, within a millisecond.
 
 use std::num::NonZeroU64;
 

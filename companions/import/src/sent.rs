@@ -1,7 +1,7 @@
 //! Which bytes a side has sent, so that those that come again are told from new ones, and packets that were captured
 //! twice from either.
 
-use std::collections::{BTreeMap, VecDeque};
+use std::collections::BTreeMap;
 
 use captures::{flags, offset_of, Arrival, Segment, END_OF_OFFSETS};
 
@@ -33,8 +33,9 @@ pub struct Sent {
     reached: u32,
     /// Holes before that: begin and end of each.
     holes: BTreeMap<u32, u32>,
-    /// The last packets, each with its time.
-    recent: VecDeque<(i64, Print)>,
+    /// The last packets, each with its time and its print, in a ring; and where in it the last one stands.
+    recent: Vec<(i64, u64)>,
+    latest: usize,
     /// The offset up to which the other side acknowledged, and with which packet; and the first one since when that lies
     /// behind all bytes that came.
     acknowledged: u32,
@@ -46,30 +47,14 @@ pub struct Sent {
     is_snapped: bool,
 }
 
-/// What tells one packet from another.
-#[derive(PartialEq, Eq)]
-struct Print {
-    sequence: u32,
-    length: u32,
-    sum: u64,
-    identification: u16,
-}
-
-impl Print {
-    fn of(segment: &Segment<'_>, payload: &[u8]) -> Print {
-        let Segment { sequence, identification, .. } = *segment;
-        Print { sequence, length: payload.len() as u32, sum: sum_of(payload), identification }
-    }
-}
-
-/// Bytes in 64 bits: eight of them at a time, in four sums side by side. Bytes that differ in one sum alone differ in the
-/// result.
-fn sum_of(octets: &[u8]) -> u64 {
-    let mut sums = [0, 1, 2, octets.len() as u64];
+/// What tells one packet from another: its number, its identification, and its payload, in 64 bits. Eight bytes are taken
+/// at a time, in four sums side by side; what differs in one sum alone differs in the result.
+fn print_of(sequence: u32, identification: u16, octets: &[u8]) -> u64 {
+    let add = |sum: u64, number: u64| (sum ^ number).wrapping_mul(FACTOR).rotate_left(TURN);
+    let mut sums = [0, 1, 2, 3];
     let mut take = |all: &[u8]| {
         for (sum, eight) in sums.iter_mut().zip(all.chunks_exact(8)) {
-            let number = eight.try_into().map_or(0, u64::from_le_bytes);
-            *sum = (*sum ^ number).wrapping_mul(FACTOR).rotate_left(TURN);
+            *sum = add(*sum, eight.try_into().map_or(0, u64::from_le_bytes));
         }
     };
     let mut all = octets.chunks_exact(STRIDE);
@@ -77,7 +62,8 @@ fn sum_of(octets: &[u8]) -> u64 {
     let mut last = [0; STRIDE];
     last[..all.remainder().len()].copy_from_slice(all.remainder());
     take(&last);
-    sums.into_iter().fold(0, |one, other| (one ^ other).wrapping_mul(FACTOR).rotate_left(TURN))
+    let others = [u64::from(sequence), u64::from(identification), octets.len() as u64];
+    sums.into_iter().chain(others).fold(0, add)
 }
 
 impl Sent {
@@ -129,7 +115,7 @@ impl Sent {
 
     /// The time of the last segment with payload.
     pub fn last(&self) -> Option<i64> {
-        self.recent.back().map(|(nanos, _)| *nanos)
+        self.recent.get(self.latest).map(|(nanos, _)| *nanos)
     }
 
     pub fn add(&mut self, arrival: Arrival, segment: &Segment<'_>) -> Fresh {
@@ -144,8 +130,9 @@ impl Sent {
             None => return Fresh::None,
         };
         self.longest = self.longest.max(payload.len() as u32);
-        let print = Print::of(segment, payload);
-        let is_double = self.may_be_double(initial, segment) && self.is_double(arrival, &print);
+        let print = print_of(segment.sequence, segment.identification, payload);
+        let is_double =
+            self.may_be_double(initial, segment) && self.is_double(arrival, print, segment.identification != 0);
         self.note(arrival, print);
         if is_double {
             return Fresh::Doubled;
@@ -167,17 +154,20 @@ impl Sent {
 
     /// Whether these bytes came with a packet just before that was no other one: with the same identification, or,
     /// where packets have none, at nearly the same time.
-    fn is_double(&self, arrival: Arrival, print: &Print) -> bool {
+    fn is_double(&self, arrival: Arrival, print: u64, is_identified: bool) -> bool {
         let is_close = |nanos: i64| arrival.nanos.saturating_sub(nanos).saturating_abs() <= CLOSE;
         let mut recent = self.recent.iter();
-        recent.any(|(nanos, one)| one == print && (print.identification != 0 || is_close(*nanos)))
+        recent.any(|(nanos, one)| *one == print && (is_identified || is_close(*nanos)))
     }
 
-    fn note(&mut self, arrival: Arrival, print: Print) {
-        if self.recent.len() == MOST_BETWEEN {
-            self.recent.pop_front();
+    fn note(&mut self, arrival: Arrival, print: u64) {
+        if self.recent.len() < MOST_BETWEEN {
+            self.latest = self.recent.len();
+            self.recent.push((arrival.nanos, print));
+        } else {
+            self.latest = (self.latest + 1) % MOST_BETWEEN;
+            self.recent[self.latest] = (arrival.nanos, print);
         }
-        self.recent.push_back((arrival.nanos, print));
     }
 
     /// Notes bytes from one offset to another, and answers how many of them are new.
@@ -213,7 +203,7 @@ impl Sent {
 
 #[cfg(test)]
 mod tests {
-    use super::{sum_of, Arrival, Sent};
+    use super::{print_of, Arrival, Sent};
 
     #[test]
     fn bytes_are_new_once() {
@@ -227,19 +217,20 @@ mod tests {
     }
 
     #[test]
-    fn bytes_that_differ_have_other_sums() {
+    fn packets_that_differ_have_other_prints() {
         let octets: Vec<u8> = (0..100).collect();
-        let mut sums: Vec<u64> = (0..=octets.len()).map(|length| sum_of(&octets[..length])).collect();
-        sums.extend((0..=70).map(|length| sum_of(&vec![0; length])));
+        let mut prints: Vec<u64> = (0..=octets.len()).map(|length| print_of(0, 0, &octets[..length])).collect();
+        prints.extend((0..=70).map(|length| print_of(0, 0, &vec![0; length])));
+        prints.extend([print_of(1, 0, &octets), print_of(0, 1, &octets)]);
         for at in 0..octets.len() {
             let mut changed = octets.clone();
             changed[at] ^= 0x80;
-            sums.push(sum_of(&changed));
+            prints.push(print_of(0, 0, &changed));
         }
-        let count = sums.len() - 1; // two are of no bytes
-        sums.sort_unstable();
-        sums.dedup();
-        assert_eq!(sums.len(), count);
+        let count = prints.len() - 1; // two are of no bytes
+        prints.sort_unstable();
+        prints.dedup();
+        assert_eq!(prints.len(), count);
     }
 
     #[test]

@@ -1,7 +1,5 @@
 //! How quickly the other side acknowledges what one side sends, and what Nagle's algorithm held back of it.
 
-use std::collections::VecDeque;
-
 use captures::{flags, Arrival, Segment};
 
 /// So many segments of a side that are not acknowledged yet are timed; later ones are not, until there is room.
@@ -23,7 +21,7 @@ const MOST_SHIFTED: u8 = 14;
 #[derive(Debug, Default)]
 pub struct Way {
     /// In the order of their numbers.
-    timed: VecDeque<Timed>,
+    timed: Vec<Timed>,
     /// The number behind all that was sent, and up to which it is acknowledged.
     sent: Option<u32>,
     acknowledged: u32,
@@ -96,7 +94,7 @@ impl Way {
         let held = if is_new && payload > 0 { self.held(arrival, payload) } else { None };
         let first = if is_new { None } else { self.sent_again((begin, end), arrival, segment.has(flags::SYN)) };
         if is_new && self.timed.len() < MOST_TIMED {
-            self.timed.push_back(Timed { begin, end, nanos: arrival.nanos, is_again: false });
+            self.timed.push(Timed { begin, end, nanos: arrival.nanos, is_again: false });
         }
         if self.sent.map_or(true, |sent| is_behind(end, sent)) {
             self.acknowledged = if self.sent.is_some() { self.acknowledged } else { begin };
@@ -156,9 +154,9 @@ impl Way {
         let is_bare = segment.payload == 0 && !segment.has(flags::SYN | flags::FIN);
         self.free = (is_bare && self.sent == Some(number)).then_some(arrival.nanos);
         let mut last: Option<i64> = None;
-        while let Some(one) = self.timed.front().filter(|one| !is_behind(one.end, number)) {
+        let count = self.timed.iter().take_while(|one| !is_behind(one.end, number)).count();
+        for one in self.timed.drain(..count) {
             last = if one.is_again { last } else { Some(one.nanos) };
-            self.timed.pop_front();
         }
         last.map(|last| arrival.nanos.saturating_sub(last)).filter(|took| *took >= 0)
     }
