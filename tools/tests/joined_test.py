@@ -16,20 +16,9 @@ import unittest
 
 from tests.captures import BEGINNINGS, Capture, frame, number
 from tests.programs import needed
-from tools.tests.import_tools import ANY, IMPORT, TOP, Packet, key_log_of, pcap_of, read_pcap
-from tools.tests.joined_cuts import (
-    RAW,
-    SYN,
-    Joined,
-    Known,
-    Tally,
-    Whole,
-    cuts_of,
-    joined,
-    packets_of,
-    segment_of,
-    share,
-)
+from tools.tests.import_tools import ANY, IMPORT, TOP, Packet, Word, key_log_of, pcap_of, read_pcap
+from tools.tests.joined_cuts import RAW, SYN, Joined, Known, Whole, cuts_of, joined, packets_of, segment_of
+from tools.tests.joined_tally import Tally, share
 
 PROGRAM = ""
 FOLDERS = ("examples/*.pcap", "tests/answer/*.pcap", "tests/causes/*.pcap.gz", "tests/tls/*.pcap*")
@@ -98,7 +87,16 @@ class Exact(unittest.TestCase):
         with tempfile.TemporaryDirectory(prefix="h2audit-test-") as folder:
             source, out, made = (pathlib.Path(folder, name) for name in ("in.pcap", "out.pcap", "map"))
             source.write_bytes(pcap_of(left, link))
-            words = [IMPORT, "--joined", "-o", out, "-m", made, *key_log_of(path.name.split(".")[0]), source]
+            words: list[Word] = [
+                IMPORT,
+                "--joined",
+                "-o",
+                out,
+                "-m",
+                made,
+                *key_log_of(path.name.split(".")[0]),
+                source,
+            ]
             subprocess.run(words, check=True)
             report = subprocess.run([PROGRAM, out], capture_output=True, text=True).stdout
             lines = [line for line in made.read_text().splitlines() if line.startswith(("joined", "made"))]
@@ -171,7 +169,7 @@ class Made(unittest.TestCase):
     def test_pipes(self) -> None:
         self.source("in.pcap", self.packets[12:])
         made, _ = self.made("in.pcap", "--joined")
-        words = [IMPORT, "--joined", "-o", "-"]
+        words: list[Word] = [IMPORT, "--joined", "-o", "-"]
         run = subprocess.run(words, input=(self.folder / "in.pcap").read_bytes(), capture_output=True)
         self.assertEqual(run.stdout, made)
 

@@ -51,7 +51,7 @@ impl Grade {
 }
 
 /// What is assumed of one window of a side, in bytes.
-#[derive(Clone, Copy, Debug, PartialEq)]
+#[derive(Clone, Copy, Debug, PartialEq, Eq)]
 pub struct Assumed {
     /// The side that sends through it: 0 is the client.
     pub side: usize,

@@ -21,7 +21,7 @@ const MOST_BETWEEN: usize = 8;
 const FEW: u64 = 10;
 
 /// How a connection was joined.
-#[derive(Clone, Debug, PartialEq)]
+#[derive(Clone, Debug, PartialEq, Eq)]
 pub enum How {
     /// The SYN was lost, and its answer is there: nothing is inferred.
     Syn,
@@ -34,7 +34,7 @@ pub enum How {
 }
 
 /// What is inferred.
-#[derive(Clone, Debug, PartialEq)]
+#[derive(Clone, Debug, PartialEq, Eq)]
 pub struct Inferred {
     /// How the sides are told apart.
     pub sides: Told,
@@ -62,7 +62,7 @@ pub struct Border {
 }
 
 /// A connection, and what is made up for it.
-#[derive(Clone, Debug, PartialEq)]
+#[derive(Clone, Debug, PartialEq, Eq)]
 pub struct Joined {
     /// The first packet of it.
     pub first: Arrival,
