@@ -81,6 +81,8 @@ pub enum Unjoined {
     NoFrames,
     /// More streams were open than is followed.
     ManyStreams,
+    /// More connections began before the capture than are followed.
+    ManyPairs,
 }
 
 impl Unjoined {
@@ -90,6 +92,7 @@ impl Unjoined {
             Unjoined::Tls => "tls",
             Unjoined::NoFrames => "no-frames",
             Unjoined::ManyStreams => "many-streams",
+            Unjoined::ManyPairs => "many-pairs",
         }
     }
 }
@@ -161,9 +164,13 @@ impl Joiner {
         }
     }
 
-    /// Whether it cannot be joined, whatever follows.
-    pub fn is_over(&self) -> bool {
-        !self.is_exact && self.both.is_tls()
+    /// Why it cannot be joined, whatever follows.
+    pub fn over(&self) -> Option<Unjoined> {
+        match () {
+            () if self.is_exact => None,
+            () if self.both.is_tls() => Some(Unjoined::Tls),
+            () => self.both.has_no_frames().then_some(Unjoined::NoFrames),
+        }
     }
 
     fn keep_front(&mut self, flow: usize, piece: &Piece<'_>) {
