@@ -6,7 +6,7 @@
 
 use std::io::{self, BufReader, Read, Write};
 
-use captures::{flags, Arrival, Packet, Segment, MADE_HEADERS, RAW};
+use captures::{flags, Arrival, Ends, Packet, Segment, MADE_HEADERS, RAW};
 use joined::{Joined, Joiner, Piece, Unjoined};
 use programs::{temporary_failure, Failure, PrivateFile};
 
@@ -17,10 +17,22 @@ use crate::table::Stray;
 /// Pair, packet, time, length of the datagram, and how long it was.
 const HEAD: usize = 28;
 
+/// So many connections are followed.
+const MOST_FOLLOWED: usize = 1 << 16;
+
+/// What is known of a pair of endpoints.
+enum Pair {
+    /// Nothing but its first segment, since none had payload.
+    Bare(Arrival, Ends),
+    Followed(Box<Joiner>),
+    Over(Unjoined),
+}
+
 /// The pairs of endpoints by the order of their first segments.
 #[derive(Default)]
 pub struct Joining {
-    pairs: Vec<Option<Box<Joiner>>>,
+    pairs: Vec<Pair>,
+    followed: usize,
     waiting: Option<PrivateFile>,
     head: Vec<u8>,
     answers: Answers,
@@ -32,17 +44,32 @@ impl Joining {
     /// Takes a segment of a pair that has opened no connection so far.
     pub fn take(&mut self, stray: Stray, arrival: Arrival, segment: &Segment<'_>) -> Result<(), Failure> {
         if stray.pair == self.pairs.len() {
-            self.pairs.push(Some(Box::new(Joiner::new(arrival, segment.ends))));
+            self.pairs.push(Pair::Bare(arrival, segment.ends));
         }
-        let joiner = match self.pairs.get_mut(stray.pair).and_then(Option::as_mut) {
-            Some(joiner) => joiner,
+        let pair = match self.pairs.get_mut(stray.pair) {
+            Some(pair) => pair,
             None => return Ok(()),
         };
-        joiner.take(stray.flow, &piece_of(arrival, segment));
-        if !joiner.is_over() {
-            self.keep(stray.pair, arrival, segment).map_err(|error| temporary_failure(&error))?;
+        match pair {
+            Pair::Bare(..) if !segment.has_payload() && segment.flags & flags::SYN == 0 => {}
+            Pair::Bare(..) if self.followed == MOST_FOLLOWED => *pair = Pair::Over(Unjoined::ManyPairs),
+            Pair::Bare(first, ends) => {
+                self.followed += 1;
+                *pair = Pair::Followed(Box::new(Joiner::new(*first, *ends)));
+            }
+            Pair::Followed(_) | Pair::Over(_) => {}
         }
-        Ok(())
+        if let Pair::Followed(joiner) = pair {
+            joiner.take(stray.flow, &piece_of(arrival, segment));
+            if let Some(why) = joiner.over() {
+                *pair = Pair::Over(why);
+                self.followed -= 1;
+            }
+        }
+        match pair {
+            Pair::Over(_) => Ok(()),
+            _ => self.keep(stray.pair, arrival, segment).map_err(|error| temporary_failure(&error)),
+        }
     }
 
     /// The SYN ACK that is missing before a segment.
@@ -67,8 +94,12 @@ impl Joining {
 
     /// What became of the next pair, in the order of first segments; none where all were asked for.
     pub fn next(&mut self, pair: usize) -> Option<Result<Joined, Unjoined>> {
-        let joiner = self.pairs.get_mut(pair)?.take()?;
-        Some(joiner.finish())
+        let over = Pair::Over(Unjoined::NoFrames);
+        Some(match std::mem::replace(self.pairs.get_mut(pair)?, over) {
+            Pair::Bare(..) => Err(Unjoined::NoFrames),
+            Pair::Followed(joiner) => joiner.finish(),
+            Pair::Over(why) => Err(why),
+        })
     }
 
     /// The packets that wait.

@@ -8,6 +8,8 @@ use crate::course::wants;
 
 /// So many bytes of a flow wait.
 pub const MOST_WAITING: usize = 1 << 20;
+/// Where neither flow has a border, no more of one is waited for: frames of the usual length show themselves in this.
+const MOST_UNKNOWN: usize = 1 << 16;
 /// A border is looked for when so many bytes are there, and again whenever they are twice as many.
 const FIRST_LOOK: usize = 13;
 /// So many bytes may show that they are TLS.
@@ -128,7 +130,13 @@ impl Both {
         }
     }
 
-    /// Whether what came cannot be HTTP/2: it is TLS, or a flow has no border in all that waits.
+    /// Whether much came, and no border of either flow is known.
+    pub fn has_no_frames(&self) -> bool {
+        let has_much = self.flows.iter().any(|one| one.bytes.len() >= MOST_UNKNOWN);
+        !self.goes_on && has_much && self.flows.iter().all(|one| one.border.is_none())
+    }
+
+    /// Whether what came cannot be HTTP/2: it is TLS.
     pub fn is_tls(&self) -> bool {
         self.flows.iter().any(|one| one.is_tls)
     }
@@ -259,6 +267,17 @@ mod tests {
         assert_eq!(taken(&mut both, 1, 7, &late), [(1, 5), (1, 5)]);
         assert_eq!(both.flows[1].border().map(|border| border.0), Some(12));
         assert_eq!(taken(&mut both, 1, 7 + late.len() as u32, &frame(6, 1)), [(1, 6)]);
+    }
+
+    #[test]
+    fn much_without_frames() {
+        let mut both = Both::default();
+        taken(&mut both, 0, 1, &b"no frames are here. ".repeat(3000));
+        assert!(!both.has_no_frames());
+        taken(&mut both, 0, 60_001, &b"no frames are here. ".repeat(300));
+        assert!(both.has_no_frames());
+        taken(&mut both, 1, 7, &frame(5, 10).repeat(2));
+        assert!(!both.has_no_frames());
     }
 
     #[test]

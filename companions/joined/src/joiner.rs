@@ -3,7 +3,7 @@
 use std::collections::VecDeque;
 
 use captures::{flags, swapped, Arrival, Ends};
-use cutter::{kind, Head, HEADER, PREFACE};
+use cutter::{kind, Head, Nanos, HEADER, PREFACE};
 
 use crate::assumed::{credits_of, Assumed};
 use crate::beginning::{beginning_of, Stand};
@@ -21,7 +21,7 @@ const MOST_BETWEEN: usize = 8;
 const FEW: u64 = 10;
 
 /// How a connection was joined.
-#[derive(Clone, Debug, PartialEq)]
+#[derive(Clone, Debug, PartialEq, Eq)]
 pub enum How {
     /// The SYN was lost, and its answer is there: nothing is inferred.
     Syn,
@@ -34,7 +34,7 @@ pub enum How {
 }
 
 /// What is inferred.
-#[derive(Clone, Debug, PartialEq)]
+#[derive(Clone, Debug, PartialEq, Eq)]
 pub struct Inferred {
     /// How the sides are told apart.
     pub sides: Told,
@@ -46,6 +46,8 @@ pub struct Inferred {
     /// SETTINGS from before that each side acknowledges; and the longest frame of each.
     pub acknowledged: [u32; 2],
     pub longest: [u32; 2],
+    /// When each side first acknowledged an initial window that was seen: from then on it is known of streams that opened.
+    pub changed: [Option<Nanos>; 2],
     /// The streams that were open, in rising order.
     pub open: Vec<u32>,
     /// Whether nothing may be claimed: times go back, or packets stand twice.
@@ -60,7 +62,7 @@ pub struct Border {
 }
 
 /// A connection, and what is made up for it.
-#[derive(Clone, Debug, PartialEq)]
+#[derive(Clone, Debug, PartialEq, Eq)]
 pub struct Joined {
     /// The first packet of it.
     pub first: Arrival,
@@ -79,6 +81,8 @@ pub enum Unjoined {
     NoFrames,
     /// More streams were open than is followed.
     ManyStreams,
+    /// More connections began before the capture than are followed.
+    ManyPairs,
 }
 
 impl Unjoined {
@@ -88,6 +92,7 @@ impl Unjoined {
             Unjoined::Tls => "tls",
             Unjoined::NoFrames => "no-frames",
             Unjoined::ManyStreams => "many-streams",
+            Unjoined::ManyPairs => "many-pairs",
         }
     }
 }
@@ -159,9 +164,13 @@ impl Joiner {
         }
     }
 
-    /// Whether it cannot be joined, whatever follows.
-    pub fn is_over(&self) -> bool {
-        !self.is_exact && self.both.is_tls()
+    /// Why it cannot be joined, whatever follows.
+    pub fn over(&self) -> Option<Unjoined> {
+        match () {
+            () if self.is_exact => None,
+            () if self.both.is_tls() => Some(Unjoined::Tls),
+            () => self.both.has_no_frames().then_some(Unjoined::NoFrames),
+        }
     }
 
     fn keep_front(&mut self, flow: usize, piece: &Piece<'_>) {
@@ -243,6 +252,7 @@ impl Joiner {
             made: script.frames,
             acknowledged: stand.acknowledged_later,
             longest: stand.longest,
+            changed: flows.map(|flow| self.course.senders[flow].changed),
             open: self.course.streams.open().map(|(id, _)| id).collect(),
             assumed: stand.credits.into_iter().flat_map(|credits| credits.assumed).collect(),
             is_doubtful,

@@ -31,7 +31,12 @@ struct Opened {
 pub struct Streams {
     /// Since when each flow may have waited.
     beginnings: [Nanos; 2],
-    known: BTreeMap<u32, Stream>,
+    /// Where each stands.
+    places: BTreeMap<u32, usize>,
+    known: Vec<Stream>,
+    free: Vec<usize>,
+    /// The one that was asked for last, and its place: frames of one stream often follow each other.
+    last: (u32, usize),
     /// By parity: even ones are promised.
     opened: [Opened; 2],
     open: usize,
@@ -42,7 +47,10 @@ impl Streams {
     pub fn new(beginning: Nanos) -> Streams {
         Streams {
             beginnings: [beginning; 2],
-            known: BTreeMap::new(),
+            places: BTreeMap::new(),
+            known: Vec::new(),
+            free: Vec::new(),
+            last: (0, 0),
             opened: Default::default(),
             open: 0,
             has_too_many: false,
@@ -66,13 +74,14 @@ impl Streams {
 
     /// Those that were open, in rising order.
     pub fn open(&self) -> impl Iterator<Item = (u32, &Stream)> {
-        self.known.iter().filter(|(_, stream)| stream.was_open).map(|(id, stream)| (*id, stream))
+        let known = self.places.iter().map(|(id, place)| (*id, &self.known[*place]));
+        known.filter(|(_, stream)| stream.was_open)
     }
 
     /// Whether HEADERS of the client, or a promise, may open a stream: it is above all that opened and all that were open.
     pub fn may_open(&self, id: u32) -> bool {
         let opened = &self.opened[(id % 2) as usize];
-        let is_above_open = || self.known.range(id..).all(|(other, _)| other % 2 != id % 2);
+        let is_above_open = || self.places.range(id..).all(|(other, _)| other % 2 != id % 2);
         match opened.first {
             Some(_) => id > opened.last,
             None => is_above_open(),
@@ -80,7 +89,7 @@ impl Streams {
     }
 
     pub fn is_known(&self, id: u32) -> bool {
-        self.known.contains_key(&id)
+        self.places.contains_key(&id)
     }
 
     /// A stream opens, by a request or by a promise; those above it that were taken to be open were not opened yet.
@@ -93,13 +102,46 @@ impl Streams {
                 self.forget_above(id);
             }
         }
-        self.known.insert(id, Stream { windows, was_open: false, ended: [false; 2] });
+        self.insert(id, Stream { windows, was_open: false, ended: [false; 2] });
+    }
+
+    fn insert(&mut self, id: u32, stream: Stream) -> usize {
+        let place = match self.places.get(&id).copied().or_else(|| self.free.pop()) {
+            Some(place) => {
+                self.known[place] = stream;
+                place
+            }
+            None => {
+                self.known.push(stream);
+                self.known.len() - 1
+            }
+        };
+        self.places.insert(id, place);
+        place
+    }
+
+    /// A stream is over. Its place is free, and its evidence that of others, or void.
+    fn remove(&mut self, id: u32) {
+        if let Some(place) = self.places.remove(&id) {
+            self.open -= usize::from(self.known[place].was_open);
+            self.free.push(place);
+            self.last = (0, 0);
+        }
+    }
+
+    fn place_of(&mut self, id: u32) -> Option<usize> {
+        if self.last.0 != id || id == 0 {
+            self.last = (id, *self.places.get(&id)?);
+        }
+        Some(self.last.1)
     }
 
     fn forget_above(&mut self, id: u32) {
-        let above: Vec<u32> = self.known.range(id..).map(|(other, _)| *other).filter(|it| it % 2 == id % 2).collect();
-        for other in above {
-            self.open -= usize::from(self.known.remove(&other).map_or(false, |stream| stream.was_open));
+        for (other, place) in self.places.split_off(&id) {
+            self.places.insert(other, place);
+            if other % 2 == id % 2 {
+                self.remove(other);
+            }
         }
     }
 
@@ -108,26 +150,32 @@ impl Streams {
         if id == 0 {
             return None;
         }
-        if !self.known.contains_key(&id) {
-            let opened = &self.opened[(id % 2) as usize];
-            if opened.first.map_or(false, |first| id >= first) {
-                return None;
-            }
-            if self.open == MOST_OPEN {
-                self.has_too_many = true;
-                return None;
-            }
-            self.open += 1;
-            let windows = self.beginnings.map(Window::open_since);
-            self.known.insert(id, Stream { windows, was_open: true, ended: [false; 2] });
+        let place = match self.place_of(id) {
+            Some(place) => place,
+            None => self.was_open(id)?,
+        };
+        self.known.get_mut(place)
+    }
+
+    /// Notes a stream that was open.
+    fn was_open(&mut self, id: u32) -> Option<usize> {
+        let opened = &self.opened[(id % 2) as usize];
+        if opened.first.map_or(false, |first| id >= first) {
+            return None;
         }
-        self.known.get_mut(&id)
+        if self.open == MOST_OPEN {
+            self.has_too_many = true;
+            return None;
+        }
+        self.open += 1;
+        let windows = self.beginnings.map(Window::open_since);
+        Some(self.insert(id, Stream { windows, was_open: true, ended: [false; 2] }))
     }
 
     /// A flow ends a stream; both do with RST_STREAM.
     pub fn end(&mut self, id: u32, flows: &[usize]) {
-        let stream = match self.known.get_mut(&id) {
-            Some(stream) => stream,
+        let stream = match self.place_of(id) {
+            Some(place) => &mut self.known[place],
             None => return,
         };
         for flow in flows {
@@ -135,7 +183,7 @@ impl Streams {
             stream.ended[*flow] = true;
         }
         if stream.ended == [true; 2] && !stream.was_open {
-            self.known.remove(&id);
+            self.remove(id);
         }
     }
 }
@@ -173,7 +221,7 @@ mod tests {
     #[test]
     fn what_opens_later_was_not_open() {
         let mut streams = Streams::new(0);
-        [3, 20, 21].iter().for_each(|id| drop(streams.get(*id)));
+        assert!([3, 20, 21].iter().all(|id| streams.get(*id).is_some()));
         streams.begin(9, windows());
         assert_eq!(open_ones(&streams), [3, 20]);
         streams.begin(13, windows());
@@ -183,7 +231,7 @@ mod tests {
     #[test]
     fn so_many_are_followed() {
         let mut streams = Streams::new(0);
-        (0..MOST_OPEN as u32).for_each(|at| drop(streams.get(2 * at + 1)));
+        assert!((0..MOST_OPEN as u32).all(|at| streams.get(2 * at + 1).is_some()));
         assert!(!streams.has_too_many());
         streams.get(2);
         assert!(streams.has_too_many());

@@ -25,10 +25,11 @@ pub struct Sender {
     pub connection: Evidence,
     /// Of the initial window that was in force at the beginning, by the streams that opened since.
     pub initial: Evidence,
-    /// The initial window that is in force since settings that were seen, the least that ever was, and how often it
-    /// changed.
+    /// The initial window that is in force since settings that were seen, the least that ever was, when it first changed,
+    /// and how often.
     in_force: Option<i64>,
     pub least_in_force: Option<i64>,
+    pub changed: Option<Nanos>,
     changes: u32,
     /// Whether the other side answered FLOW_CONTROL_ERROR on the connection, and on a stream that opened since.
     pub is_refused: bool,
@@ -90,7 +91,8 @@ impl Sender {
     }
 
     /// The other side's settings are in force from here on.
-    pub fn change(&mut self, initial: u32) {
+    pub fn change(&mut self, time: Nanos, initial: u32) {
+        self.changed.get_or_insert(time);
         let initial = i64::from(initial);
         self.in_force = Some(initial);
         self.least_in_force = Some(self.least_in_force.map_or(initial, |least| least.min(initial)));
@@ -111,14 +113,14 @@ impl Sender {
         let mut window = window.filter(|window| window.is_live);
         let spoken = window.as_ref().and_then(|window| window.spoken);
         let touched = Touched {
-            connection: self.pause.and_then(|pause| pause.touch(content.first, spoken, &self.usual)),
+            connection: self.pause.and_then(|pause| pause.touch(content.first, spoken)),
             stream: window.as_ref().and_then(|window| self.touch_of(window, content.first)),
         };
         if let Some(window) = &mut window {
             self.tell_stream(window, touched);
             self.lower_stream(window, content);
         } else if let Some(touch) = touched.connection {
-            tell(&mut self.connection, &touch);
+            tell(&mut self.connection, &touch, &self.usual);
         }
         let before = self.credit;
         self.credit -= i64::from(content.length);
@@ -130,53 +132,40 @@ impl Sender {
     /// Whether content ends a pause of a stream's window.
     fn touch_of(&self, window: &Window, content: Nanos) -> Option<Touch> {
         let pause = window.pause.filter(|_| window.change == self.changes)?;
-        pause.touch(content, window.spoken, &self.usual)
-    }
-
-    /// What is known of a stream's window, if anything of it is unknown; and its credit beside that.
-    fn evidence<'a>(&'a mut self, window: &'a mut Window) -> (Option<&'a mut Evidence>, i64) {
-        let credit = window.credit + self.in_force.unwrap_or(0);
-        let evidence = match (&mut window.open, self.in_force) {
-            (Some(open), in_force) => Some(&mut open[usize::from(in_force.is_some())]),
-            (None, None) => Some(&mut self.initial),
-            (None, Some(_)) => None,
-        };
-        (evidence, credit)
+        pause.touch(content, window.spoken)
     }
 
     /// Takes what a pause tells to the windows that were at their bounds.
     fn tell_stream(&mut self, window: &mut Window, touched: Touched) {
-        let mut connection = std::mem::take(&mut self.connection);
-        match (touched.connection, touched.stream, self.evidence(window)) {
+        let Sender { connection, initial, in_force, usual, .. } = self;
+        match (touched.connection, touched.stream, evidence(initial, *in_force, window)) {
+            (None, None, _) => {}
             (Some(of_connection), Some(of_stream), (Some(evidence), _)) => {
-                tell_both(&mut connection, evidence, [&of_connection, &of_stream]);
+                tell_both(connection, evidence, [&of_connection, &of_stream], usual);
             }
-            (_, Some(touch), (Some(evidence), _)) => tell(evidence, &touch),
+            (_, Some(touch), (Some(evidence), _)) => tell(evidence, &touch, usual),
             // A window that is known explains the pause by itself.
             (Some(_), Some(_), (None, credit)) if credit <= 0 => {}
-            (Some(touch), _, _) => tell(&mut connection, &touch),
-            _ => {}
+            (Some(touch), _, _) => tell(connection, &touch, usual),
+            (None, Some(_), (None, _)) => {}
         }
-        self.connection = connection;
     }
 
     fn lower_stream(&mut self, window: &mut Window, content: Content) {
         window.change = self.changes;
         let length = i64::from(content.length);
-        let mut connection = std::mem::take(&mut self.connection);
-        let (evidence, credit) = self.evidence(window);
+        let (evidence, credit) = evidence(&mut self.initial, self.in_force, window);
         let after = credit - length;
         let bound = match evidence {
             Some(evidence) => {
                 if evidence.low.map_or(true, |low| after < low) {
-                    give_back(&mut connection, evidence);
+                    give_back(&mut self.connection, evidence);
                 }
                 evidence.content(credit, after)
             }
             None if after <= 0 => Bound::Old,
             None => Bound::None,
         };
-        self.connection = connection;
         window.credit -= length;
         window.least = window.least.min(window.credit);
         window.pause = pause_at(bound, content);
@@ -199,6 +188,21 @@ impl Sender {
     }
 }
 
+/// What is known of a stream's window, if anything of it is unknown; and its credit beside that.
+fn evidence<'a>(
+    initial: &'a mut Evidence,
+    in_force: Option<i64>,
+    window: &'a mut Window,
+) -> (Option<&'a mut Evidence>, i64) {
+    let credit = window.credit + in_force.unwrap_or(0);
+    let evidence = match (&mut window.open, in_force) {
+        (Some(open), in_force) => Some(&mut open[usize::from(in_force.is_some())]),
+        (None, None) => Some(initial),
+        (None, Some(_)) => None,
+    };
+    (evidence, credit)
+}
+
 fn pause_at(bound: Bound, content: Content) -> Option<Pause> {
     match bound {
         Bound::None => None,
@@ -207,18 +211,19 @@ fn pause_at(bound: Bound, content: Content) -> Option<Pause> {
 }
 
 /// One window alone was at its bound.
-fn tell(evidence: &mut Evidence, touch: &Touch) {
+fn tell(evidence: &mut Evidence, touch: &Touch, usual: &Usual) {
     if touch.length.is_none() {
-        evidence.silent = touch.bits;
+        evidence.silent = touch.bits(usual);
     } else {
-        evidence.alone += evidence.worth(touch);
+        evidence.alone += evidence.worth(touch, usual);
     }
 }
 
 /// Both were: each may explain it.
-fn tell_both(connection: &mut Evidence, stream: &mut Evidence, [of_connection, of_stream]: [&Touch; 2]) {
+fn tell_both(connection: &mut Evidence, stream: &mut Evidence, touches: [&Touch; 2], usual: &Usual) {
+    let [of_connection, of_stream] = touches;
     if of_stream.length.is_none() || of_connection.length.is_none() {
-        return tell(stream, of_stream);
+        return tell(stream, of_stream, usual);
     }
     if stream.of_turn != connection.turn {
         stream.alone += stream.shared;
@@ -226,10 +231,10 @@ fn tell_both(connection: &mut Evidence, stream: &mut Evidence, [of_connection, o
         stream.lent = 0.0;
         stream.of_turn = connection.turn;
     }
-    let lent = connection.worth(of_connection);
+    let lent = connection.worth(of_connection, usual);
     connection.shared += lent;
     stream.lent += lent;
-    stream.shared += stream.worth(of_stream);
+    stream.shared += stream.worth(of_stream, usual);
 }
 
 /// A stream's window was not at its bound after all, so the connection's alone was.
@@ -308,13 +313,15 @@ mod tests {
     #[test]
     fn a_stream_that_touches_its_bound_alone() {
         let (mut sender, mut window) = open();
+        sender.content(None, content(0, 9000));
+        sender.grant(500, 100_000);
         for at in 0..4 {
-            round(&mut sender, &mut window, at * ROUND, &[1000, 500], [100_000, 1500]);
+            round(&mut sender, &mut window, at * ROUND, &[1000, 500], [0, 1500]);
         }
         let evidence = &window.open.expect("open")[0];
         assert_eq!((evidence.least(), evidence.touches), (Some(1500), 3));
         assert!(evidence.alone > LIKELY && evidence.shared == 0.0, "{evidence:?}");
-        assert_eq!(sender.connection.touches, 0);
+        assert_eq!(sender.connection.least(), Some(9000));
     }
 
     #[test]
@@ -353,7 +360,7 @@ mod tests {
             round(&mut sender, &mut window, (at * 10 + 2) * MS, &[1023], [0, 0]);
         }
         assert_eq!((sender.initial.least(), sender.initial.touches), (Some(1023), 3));
-        sender.change(500);
+        sender.change(0, 500);
         let mut window = Window::opened(true);
         round(&mut sender, &mut window, 60 * MS, &[9999], [0, 0]);
         assert_eq!(sender.initial.least(), Some(1023), "what is announced is known");
@@ -363,7 +370,7 @@ mod tests {
     fn an_open_stream_before_and_after_a_change() {
         let (mut sender, mut window) = open();
         round(&mut sender, &mut window, 0, &[1000], [0, 0]);
-        sender.change(4000);
+        sender.change(0, 4000);
         round(&mut sender, &mut window, MS, &[3500], [0, 0]);
         let [before, after] = *window.open.expect("open");
         assert_eq!((before.least(), after.least()), (Some(1000), Some(500)));
