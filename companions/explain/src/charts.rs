@@ -245,6 +245,8 @@ impl Charts {
     pub fn end(self, (begin, until): (Nanos, Nanos), frames: u64) -> ChartsSaid {
         let Charts { choice, connection, streams, initials, others, open, .. } = self;
         let room = &choice.room;
+        let mut streams: Vec<_> = streams.into_iter().collect();
+        streams.sort_unstable_by_key(|one| one.0); // points are left out in the order in which room is asked for
         let streams = streams.into_iter().flat_map(|(number, charts)| {
             let charts = charts.into_iter().enumerate();
             charts.filter_map(move |(side, chart)| Some(((side, number), chart?)))
