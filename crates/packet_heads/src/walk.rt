@@ -23,8 +23,8 @@ pub struct CapturePackets {
 
 /// The packets of a capture, handed to a visitor as its bytes are fed.
 ///
-/// After each feeding the visitor was handed exactly the packets of all bytes that were fed. The walk keeps none, and of
-/// the bytes those alone that begin a record which is not whole yet.
+/// After each feeding the visitor was handed exactly the packets of all bytes that were fed. The walk keeps none, and
+/// of the bytes those alone that begin a record which is not whole yet.
 #[derive(Drop)]
 pub struct PacketWalk<V> {
     records: RecordWalk<PacketStage<V>>,

@@ -246,7 +246,8 @@ module _ {V : Type 0} (after : ℕ → List Captured → V → Type 0) where
       }
 
   -- what stands at a front stands at more of it
-  pub at_more : (front bytes more : List ℕ) (cursor : RecordCursor) (visitor : V) → IsAt after front bytes cursor visitor
+  pub at_more : (front bytes more : List ℕ) (cursor : RecordCursor) (visitor : V)
+      → IsAt after front bytes cursor visitor
       → IsAt after (front ++ more) (bytes ++ more) cursor visitor
   at_more front bytes more cursor visitor is = record {
     seen = is.seen;

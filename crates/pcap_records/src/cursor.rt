@@ -55,7 +55,8 @@ impl RecordCursor {
     pub fn next(&mut self, bytes: &[u8]) -> Option<Record>
         requires unit { self.old.format.unit ≤ 1000 }
         requires short { self.old.at + length bytes.now ≤ 2 ^ 31 }
-        ensures next { IsNextRecord (number_of self.old.format.endian) self.old.format.unit self.old.at bytes.now result }
+        ensures next { IsNextRecord (number_of self.old.format.endian) self.old.format.unit self.old.at bytes.now
+            result }
         ensures some { IfSome result (λ row. self.new ≡ record self.old { at = row.start + row.length }) }
         ensures none { IfNone result (self.new ≡ self.old) }
     {

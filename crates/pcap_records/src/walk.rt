@@ -67,8 +67,8 @@ impl<V: RecordVisitor + Drop> RecordWalk<V> {
         }
     }
 
-    /// The number of the record that the end of the capture cuts, if there is one. The walk is to have been fed all of the
-    /// capture, and to have handed on so many records.
+    /// The number of the record that the end of the capture cuts, if there is one. The walk is to have been fed all of
+    /// the capture, and to have handed on so many records.
     pub fn cut(&self, count: u32) -> Option<u32>
         requires { count + 1 < 2 ^ 32 }
         ensures { AreAll V.after self.now count result }
@@ -93,8 +93,8 @@ impl<V: RecordVisitor + Drop> RecordWalk<V> {
         }
     }
 
-    /// Adds to the record that is begun what it lacks, as far as these bytes go, and hands it on where it is whole then.
-    /// Returns how many bytes it got: all, or else none is begun any more.
+    /// Adds to the record that is begun what it lacks, as far as these bytes go, and hands it on where it is whole
+    /// then. Returns how many bytes it got: all, or else none is begun any more.
     fn complete(&mut self, alloc: Global, more: &[u8]) -> Result<usize, AllocError>
         requires { (front : List ℕ) × HasFed V.after front self.old × (length front + length more.now ≤ 2 ^ 31) }
         ensures within { IfOk result (λ n. n ≤ length more.now) }

@@ -4,8 +4,8 @@
 //!   which are strays. `specs/Membership.antt` gives each segment its opening by one fold over the capture, and defines
 //!   connections and strays by that; `specs/code/Past.antt` says what the table keeps of it.
 //! - [`ConnectionWalk`] finds the same while the capture is read: it visits the packets of the bytes that it is fed
-//!   (`input_output::FrontWalk`, `packet_heads::PacketVisitor`), keeps them and adds them to the table. Its `finish` has
-//!   the clauses of `packet_heads::PacketWalk::finish` and of [`connections`].
+//!   (`input_output::FrontWalk`, `packet_heads::PacketVisitor`), keeps them and adds them to the table. Its `finish`
+//!   has the clauses of `packet_heads::PacketWalk::finish` and of [`connections`].
 //! - [`assemble`] returns a side's bytes from its initial sequence number on (RFC 9293, 3.4), whatever order, loss or
 //!   repetition the capture shows. `IsFlow` of `specs/Flow.antt` is the longest covered run from offset 0: its bytes,
 //!   the record by which each byte was there, and a gap where bytes are missing before later ones. Of several records

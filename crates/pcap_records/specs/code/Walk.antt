@@ -80,8 +80,8 @@ module _ {V : Type 0} (after : ℕ → List Captured → V → Type 0) where
     pub at : IsAt front walk.begun.items walk.cursor walk.visitor
     pub through : ¬ BeginsWithRecord (number_of walk.cursor.format.endian) walk.begun.items
 
-  -- where a walk was fed a whole capture, which has so many records that are whole, these are all that it holds, and this
-  -- one is cut
+  -- where a walk was fed a whole capture, which has so many records that are whole, these are all that it holds, and
+  -- this one is cut
   abbrev pub AreAll : RecordWalk V → (count : ℕ) → (cut : Option ℕ) → Type 0
   AreAll walk count cut =
       (capture : List ℕ) (is : HasFed capture walk) (found : Records) → found.rows.items ≡ rows_of is.at.seen

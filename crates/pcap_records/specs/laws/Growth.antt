@@ -1,5 +1,5 @@
--- A law of growth: bytes behind a capture add records, and change none of those that are there. A reader may hand on each
--- record as soon as its last byte is read.
+-- A law of growth: bytes behind a capture add records, and change none of those that are there. A reader may hand on
+-- each record as soon as its last byte is read.
 use Rattle.std.specs.Prelude.{◌≡◌, ◌≤◌, ℕ, List, ◌++◌, length, take}
 use Rattle.pcap_records.specs.Reading.{IsReading}
 use Rattle.pcap_records.specs.declared.pcap_record.Records.{Records}

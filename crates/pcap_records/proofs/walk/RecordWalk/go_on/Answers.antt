@@ -25,7 +25,8 @@ returns g c = λ front fed.
     let handed = c.in_ok-passed.ensures in
     let at = handed.at (front ++ more) (none_at after front more c.args.self.now fed none) in
     let kept : c.extend_from_slice.new.self.items ≡ drop passed more =
-    c.in_ok-extend_from_slice.ensures.items ∙ ap (λ l. l ++ take (length more - passed) (drop passed more)) none ∙ behind passed more in
+    c.in_ok-extend_from_slice.ensures.items
+    ∙ ap (λ l. l ++ take (length more - passed) (drop passed more)) none ∙ behind passed more in
     record {
       at = subst (λ bytes. IsAt after (front ++ more) bytes c.hand_on_all.new.cursor c.hand_on_all.new.visitor)
           (sym kept) at;
