@@ -86,6 +86,6 @@ takes first handed old new packet payload was is next more sound shown =
       descend = subst (λ past. RecordsDescend (length (handed ++ (packet, payload) ∷ []) + 1) past) (sym past)
           (subst (λ n. RecordsDescend n (with_packet (past_of (packets_among handed)) packet))
           (let size : length handed + 1 + 1 ≡ length (handed ++ (packet, payload) ∷ []) + 1 = omega (arith, count) in
-              size)
+          size)
           falls);
     }
