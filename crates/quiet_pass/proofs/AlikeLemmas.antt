@@ -6,9 +6,9 @@ use Rattle.std.specs.List.{IsDistinct, list_any}
 use Rattle.audit_terms.proofs.FindingOrder.{in_order-alike, in_order-append_comm}
 use Rattle.audit_terms.proofs.ShownFindings.{in_order-shown, shown-append}
 use Rattle.quiet_pass.specs.code.QuietPass.{AreNamed}
-use Rattle.stream_credit.proofs.Words.{◌≡◌, ℕ, ◌<◌, ◌==◌, Bool, true, false, List, [], ◌∷◌, ◌++◌, refl, sym, ap, ◌∙◌}
-use Rattle.stream_credit.proofs.Words.{arith, append-nil, append_assoc, cases_eq, eq-eqb, ne_eqb, inl, inr, or_parts}
-use Rattle.stream_credit.proofs.Words.{AllByRecursion, Finding, flat_map, if◌then◌else◌, in_order, nat_tests, shown}
+use Rattle.stream_credit.proofs.Words.{◌≡◌, ℕ, ◌<◌, ◌==◌, false, List, [], ◌∷◌, ◌++◌, refl, sym, ap, ◌∙◌}
+use Rattle.stream_credit.proofs.Words.{append-nil, append_assoc, cases_eq, eq-eqb, ne_eqb, inl, inr}
+use Rattle.stream_credit.proofs.Words.{AllByRecursion, Finding, flat_map, if◌then◌else◌, in_order, shown}
 
 -- ---- lists of findings
 

@@ -178,7 +178,8 @@ module _ (initial : Sides ℕ) (step : Step) (alone : step.frame ≡ None) where
           let rule = λ (s : ℕ). stream_said s initial (streams s) step in
           let one = flat_map (row_said initial step) old.opened.items in
           let two = flat_map (row_said initial step) old.promised.items in
-          e.said ∙ ap (λ l. l ++ shown false two) o.said ∙ append_assoc (shown false before) (shown false one) (shown false two)
+          e.said ∙ ap (λ l. l ++ shown false two) o.said
+          ∙ append_assoc (shown false before) (shown false one) (shown false two)
           ∙ ap (λ l. shown false before ++ l)
           (sym (shown-append false one two)
           ∙ ap (shown false)

@@ -21,7 +21,7 @@ use Rattle.quiet_pass.specs.code.SaidFrames.{HaveOwn}
 use Rattle.quiet_pass.specs.declared.found_passes.FoundPass.{FoundPass}
 use Rattle.stream_credit.proofs.QuietSteps.{none-shown}
 use Rattle.stream_credit.proofs.Words.{◌≡◌, ℕ, ◌+◌, ◌<◌, ◌==◌, Bool, true, false, List, [], ◌∷◌, ◌++◌, Some, Option}
-use Rattle.stream_credit.proofs.Words.{refl, sym, ap, ◌∙◌, arith, append-nil, append_assoc, eq-eqb, is_some}
+use Rattle.stream_credit.proofs.Words.{refl, sym, ap, ◌∙◌, arith, append-nil, append_assoc, is_some}
 use Rattle.stream_credit.proofs.Words.{AllByRecursion, Finding, Frame, IfOk-weaker, OnTrue_at, OnTrue_from, shown}
 use Rattle.stream_credit.proofs.Words.{length}
 use Rattle.stream_credit.proofs.Words.{cases_Bool, idle_stream, inl, inr, nat_tests, ne_eqb, or_parts, subst, upto_stop}

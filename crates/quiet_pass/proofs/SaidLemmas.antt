@@ -152,8 +152,8 @@ module _ {frame : Frame} {old : QuietPass} {opens : Bool} {change : Option Chang
       ∙ ap (connection_after state.connection) item
 
   -- the code has the finding of an acknowledgement first, and streams in an order of its own
-  pub said-step : {new : QuietPass} (after : List Finding) {found : List Finding} (some : List ℕ) → AreAllSaid state frame some
-      → IsInRange frame → start ≡ settings_said state.in_force frame
+  pub said-step : {new : QuietPass} (after : List Finding) {found : List Finding} (some : List ℕ)
+      → AreAllSaid state frame some → IsInRange frame → start ≡ settings_said state.in_force frame
       → shown false after ≡ shown false before ++ shown false (streams_said some state frame)
       → found ≡ shown false (in_order after)
       → (list_any stops found ≡ false → StandsFor new (next state frame)) → IsSaidStep state frame found new

@@ -8,19 +8,19 @@ use Rattle.quiet_pass.proofs.ChangeLemmas.{quiet-said}
 use Rattle.quiet_pass.proofs.PassLemmas.{last-if, none-taken}
 use Rattle.quiet_pass.proofs.SaidLemmas.{AreAllSaid, opens-as, said-step, said_of, spoken-next}
 use Rattle.quiet_pass.proofs.StreamFrames.{after-still, said-still, unopened-still}
-use Rattle.quiet_pass.proofs.StreamLemmas.{same-sides, streams-same}
+use Rattle.quiet_pass.proofs.StreamLemmas.{streams-same}
 use Rattle.quiet_pass.specs.code.Connection.{as_item}
 use Rattle.quiet_pass.specs.code.QuietPass.{MovesNoStream, StandsFor}
 use Rattle.quiet_pass.specs.code.SaidFrames.{IsBroughtSaying, IsConnectionKept, IsConnectionSaid, IsSaidStep}
 use Rattle.quiet_pass.specs.code.SaidFrames.{change_alone}
-use Rattle.quiet_pass.specs.code.Streams.{AreStreams, IsChangeSaid}
+use Rattle.quiet_pass.specs.code.Streams.{IsChangeSaid}
 use Rattle.quiet_pass.specs.declared.kept_streams.Streams.{Streams}
 use Rattle.quiet_pass.specs.declared.passes.QuietPass.{QuietPass}
 use Rattle.settings_pair.specs.code.Pending.{IsBrought, IsPending}
-use Rattle.stream_credit.proofs.Words.{◌≡◌, ℕ, ◌<◌, ◌==◌, ◌&&◌, Bool, true, false, List, [], ◌∷◌, ◌++◌, Option, refl, sym}
+use Rattle.stream_credit.proofs.Words.{◌≡◌, ℕ, ◌&&◌, Bool, true, false, List, [], ◌∷◌, ◌++◌, Option, refl, sym}
 use Rattle.stream_credit.proofs.Words.{ap, ◌∙◌, subst, is_ack, is_none, pos, say}
-use Rattle.stream_credit.proofs.Words.{Change, ConnectionState, Finding, Frame, InForce, Sides, Stream}
-use Rattle.stream_credit.proofs.Words.{change_of, flat_map, in_order, initial_after}
+use Rattle.stream_credit.proofs.Words.{Change, ConnectionState, Finding, Frame, InForce, Sides}
+use Rattle.stream_credit.proofs.Words.{flat_map, in_order, initial_after}
 use Rattle.stream_credit.proofs.Words.{settings_said, shown, stream_after, stream_said, taken}
 
 spoken-of : {old mid : QuietPass} {frame : Frame} {change : Option Change} {before after : List Finding}

@@ -79,8 +79,11 @@ module _ (frame : Frame) (still : MovesNoStream frame) (s : ℕ) (initial : Side
       → stream_said s initial entry (record { number = frame.number; frame = Some frame; change = change })
       ≡ stream_said s initial entry (change_alone frame.number change)
   met-said change =
-      rw (silent (record { number = frame.number; frame = Some frame; change = change }), window-still Client change,
-      window-still Server change) refl
+      rw (
+        silent (record { number = frame.number; frame = Some frame; change = change }),
+        window-still Client change,
+        window-still Server change,
+      ) refl
 
   window-after-still : (d : Side) (change : Option Change) (window : Option ℤ)
       → window_after d s initial (record { number = frame.number; frame = Some frame; change = change }) window
@@ -92,23 +95,27 @@ module _ (frame : Frame) (still : MovesNoStream frame) (s : ℕ) (initial : Side
       → stream_after s initial entry (record { number = frame.number; frame = Some frame; change = change })
       ≡ stream_after s initial entry (change_alone frame.number change)
   met-after change =
-      let windows : (stream_after s initial entry (record { number = frame.number; frame = Some frame; change = change })).window
+      let windows : (stream_after s initial entry
+      (record { number = frame.number; frame = Some frame; change = change })).window
       ≡ (stream_after s initial entry (change_alone frame.number change)).window =
       rw unopened-still
       (ap₂ (λ (client server : Option ℤ). record { client = client; server = server })
       (window-after-still Client change entry.window.client) (window-after-still Server change entry.window.server)) in
-      ap₂ (λ (life : StreamLife) (window : Sides (Option ℤ)). record { life = life; window = window }) life-still windows
+      ap₂ (λ (life : StreamLife) (window : Sides (Option ℤ)). record { life = life; window = window }) life-still
+      windows
 
   -- it is as if the stream did not meet the frame
   pub said-still : (change : Option Change)
-      → stream_said s initial entry (as_step frame change s) ≡ stream_said s initial entry (change_alone frame.number change)
+      → stream_said s initial entry (as_step frame change s)
+      ≡ stream_said s initial entry (change_alone frame.number change)
   said-still change = elim (cases_Bool (meets s frame)) [
     | inl met ↦ rw met (met-said change)
     | inr unmet ↦ rw unmet refl
   ]
 
   pub after-still : (change : Option Change)
-      → stream_after s initial entry (as_step frame change s) ≡ stream_after s initial entry (change_alone frame.number change)
+      → stream_after s initial entry (as_step frame change s)
+      ≡ stream_after s initial entry (change_alone frame.number change)
   after-still change = elim (cases_Bool (meets s frame)) [
     | inl met ↦ rw met (met-after change)
     | inr unmet ↦ rw unmet refl

@@ -10,8 +10,8 @@
 //!   say what the frame shows, and puts them back, whatever credit is left, and whether or not the streams are opened.
 //!   So it does with SETTINGS and acknowledgements, and with all streams at a change of the initial windows. Past a
 //!   connection error nothing more is met, only counted. It gives up too, and all frames have to be audited, where
-//!   changes move too many rows, and past the number of frames that a caller allows. Nor may credits be out of range, or
-//!   streams be opened out of order, but in captures the audit stops before that.
+//!   changes move too many rows, and past the number of frames that a caller allows. Rows hold no credits out of range,
+//!   nor streams opened out of order, but in captures the audit stops before these.
 //! - Streams are gone through in the order of rows, and the definitions say in that of their first frames. Findings are
 //!   put in order by place, so the order makes no difference, nor do streams of which nothing is shown.
 //! - It keeps of each side's last frame whether a field block goes on after it, and of which stream.

@@ -219,12 +219,7 @@ fn is_above_all(rows: &[Row], stream: u32) -> bool
 }
 
 /// The row of a stream that a frame opens, if that is above those of all rows, and shows nothing but credits.
-pub(crate) fn new_row(
-    rows: &[Row],
-    stream: u32,
-    initial: &Sides<u32>,
-    frame: &Frame,
-) -> Option<Row>
+pub(crate) fn new_row(rows: &[Row], stream: u32, initial: &Sides<u32>, frame: &Frame) -> Option<Row>
     ensures { ForSome result (λ row. AreRising rows.now
         → IsMetOn stream initial.now frame.now true rows.now (rows.now ++ row ∷ [])) }
 {
@@ -267,8 +262,8 @@ pub(crate) fn move_all(rows: &mut Vec<Row>, before: &Sides<u32>, after: &Sides<u
     true
 }
 
-/// Adds what a step without a frame shows of the streams of all rows, and brings the rows past the step; returns whether
-/// rows can say all streams then. Nothing, if one of them is not of this remainder by 2.
+/// Adds what a step without a frame shows of the streams of all rows, and brings the rows past the step; returns
+/// whether rows can say all streams then. Nothing, if one of them is not of this remainder by 2.
 pub(crate) fn say_all(
     rows: &mut Vec<Row>,
     remainder: u32,

@@ -93,7 +93,8 @@ impl QuietPass {
         Ok(connection)
     }
 
-    /// Adds what a frame shows of a stream that meets it, and brings the stream to its state after it. Stream 0 is none.
+    /// Adds what a frame shows of a stream that meets it, and brings the stream to its state after it. Stream 0 is
+    /// none.
     fn say_entry(
         &self,
         found: &mut Vec<Finding>,

@@ -57,8 +57,8 @@ pub record AreAllMoved (before after : Sides ℕ) (old new : Streams) : Type 0 w
 
 -- what a step without a frame shows of some streams was added, it shows nothing of others, and the streams are as they
 -- are after the step, if all could be kept
-pub record IsChangeSaid (initial : Sides ℕ) (step : Step) (kept : Bool) (old new : Streams) (before after : List Finding)
-    : Type 0 where
+pub record IsChangeSaid (initial : Sides ℕ) (step : Step) (kept : Bool) (old new : Streams)
+    (before after : List Finding) : Type 0 where
   pub some : List ℕ
   pub small : AllByRecursion (λ stream. stream < 2 ^ 31) some
   pub said : (streams : ℕ → Stream) → AreStreams streams old → shown false after ≡ shown false before

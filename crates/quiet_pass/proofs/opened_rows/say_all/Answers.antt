@@ -1,6 +1,6 @@
 use Rattle.stream_credit.proofs.Words.{cases_eq, get_or-set_other, get_or-set_same, get_or_default, length-set}
 use Rattle.stream_credit.proofs.Words.{drop_all, same_Some}
-use Rattle.std.proofs.Common.{◌≡◌, ◌<◌, ◌≤◌, length, get_or, inl, inr, sym, ◌∙◌, arith}
+use Rattle.std.proofs.Common.{◌≡◌, ◌<◌, ◌≤◌, length, get_or, inl, inr, ◌∙◌, arith}
 use Rattle.quiet_pass.proofs.ChangeLemmas.{both-kept, said-all, said-more}
 use Rattle.quiet_pass.proofs.RowLists.{own-each, stepped-each}
 use Rattle.quiet_pass.specs.code.Rows.{IsRowOfParity}
@@ -34,7 +34,8 @@ loop-at-preserved c =
             (was.stepped (both-kept _ _ kept).0 k d (omega (arith, l, apart)))
       ];
       same = λ k d l. get_or-set_other rows at k next d (omega (arith, l)) ∙ was.same k d (omega (arith, l));
-      said = said-more c.args.before.now c.args.step.now old at row c.loop-at.found.items c.say_change.new.found.items here within was.said
+      said = said-more c.args.before.now c.args.step.now old at row c.loop-at.found.items
+          c.say_change.new.found.items here within was.said
           c.in_ok-is_kept.ensures.said;
     }
 

@@ -20,6 +20,7 @@ returns c = record {
       c.in_ok-say_stream.ensures.said;
   stepped = λ _. record {
     same = refl;
-    after = c.hold.ensures c.in-Some-hold.standings c.in-Some-hold.is ∙ rw c.held-entry.ensures.same at c.in_ok-say_stream.ensures.after;
+    after = c.hold.ensures c.in-Some-hold.standings c.in-Some-hold.is
+        ∙ rw c.held-entry.ensures.same at c.in_ok-say_stream.ensures.after;
   };
 }
