@@ -48,7 +48,8 @@ pub fn parse_words(alloc: Global, words: &[&str]) -> Result<Asked, Failure>
 /// The split that words ask for in which clap finds no fault.
 fn split_asked(alloc: Global, found: &ArgMatches<'_>) -> Result<Asked, Failure>
     requires { HasParts (found_of found.now) }
-    ensures asked { (words : List Text) → rows_of (found_of found.now) ≡ matches_of app words → IfOk result (Asks words) }
+    ensures asked { (words : List Text) → rows_of (found_of found.now) ≡ matches_of app words
+        → IfOk result (Asks words) }
     ensures told { IfErr result (IsToldAs 2) }
 {
     let folder = String::from_str(alloc, found.get_str("output").unwrap_or(""))?;

@@ -1,7 +1,7 @@
 //! What the program does.
 
-ghost use Rattle.std.specs.Prelude.{◌≡◌, ◌<◌, ◌≤◌, IfErr, IfOk, MatchResult, None, Result as ResultTerm, drop, length, map};
-ghost use Rattle.std.specs.Prelude.{string_bytes, vec_len};
+ghost use Rattle.std.specs.Prelude.{◌≡◌, ◌<◌, ◌≤◌, IfErr, IfOk, MatchResult, None, Result as ResultTerm, drop};
+ghost use Rattle.std.specs.Prelude.{length, map, string_bytes, vec_len};
 ghost use Rattle.std.specs.Process.{exit_status};
 ghost use Rattle.std.specs.Result.{IsOkAnd};
 ghost use Rattle.std.specs.Vec.Iter.{into_iter_items};
