@@ -94,7 +94,7 @@ class Memory(unittest.TestCase):
             "let Ok(capture) = Capture::with_last(alloc, self.chunks.as_slice(), &[]) else { return Err(AllocError);"
         ],
         "packet_heads/src/walk.rt": ["match self.completed(..) { Err(_) => Err(PcapFault::OutOfMemory),"],
-        "pcap_records/src/reading.rt": ["Ok(format) => match passed(..) { Err(_) => Err(PcapFault::OutOfMemory),"],
+        "pcap_records/src/reading.rt": ["Ok(format) => match all_of(..) { Err(_) => Err(PcapFault::OutOfMemory),"],
         "report_pages/src/report.rt": ["match self.write_all(..) { Err(_) => Err(AllocError),"],
         "split_program/src/command.rt": ["if kind == ErrorKind::OutOfMemory { return Err(Failure::OutOfMemory);"],
         "split_program/src/failure.rt": [
@@ -111,7 +111,6 @@ class Memory(unittest.TestCase):
         ],
         "split_program/src/outputs.rt": ["match BufWriter::with_capacity(..) { Err(_) => Err(Failure::OutOfMemory),"],
         "split_program/src/program.rt": ["match String::from_str(..) { Err(_) => Failure::OutOfMemory,"],
-        "tcp_streams/src/walk.rt": ["match connections_of(..) { Err(_) => Err(PcapFault::OutOfMemory),"],
     }
 
     def test_places(self) -> None:

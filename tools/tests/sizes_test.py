@@ -21,7 +21,7 @@ TOP = pathlib.Path(__file__).resolve().parents[2]
 MIB = 1 << 20
 ADDRESS, SERVER = 0x0B000000, (0x0A000002, 80)
 SETTINGS, HEADERS = frame_of(["SETTINGS"]), frame_of(["HEADERS", "1"])
-# An acknowledgement that answers nothing: it is told, so that the frames go through the rounds.
+# An acknowledgement that answers nothing: it is told, so several workers take the frames of long connections in rounds.
 UNMATCHED = frame_of(["ACK"])
 
 CONNECTIONS = 210_000

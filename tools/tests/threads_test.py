@@ -55,7 +55,8 @@ def credits(frames: int) -> bytes:
 
 TWO_STREAMS = capture_of("opened\nC HEADERS 1\nC HEADERS 3\n")
 TWO_LOUD_STREAMS = capture_of("opened\nC HEADERS 1\nC HEADERS 3\nS WINDOW_UPDATE 1 0\nS WINDOW_UPDATE 3 0\n")
-# An acknowledgement that answers nothing, which is told and ends nothing: so frames go through the rounds.
+# An acknowledgement that answers nothing, which is told and ends nothing: so the frames of a connection that is longer
+# than a block go through the rounds.
 UNMATCHED, AT_ONCE = SETTINGS_ACK, "C ACK"
 # A grant of nothing, which is a connection error, and is told as its frame is met.
 NOTHING_GRANTED = frame_of(["WINDOW_UPDATE", "0", "0"])
@@ -134,10 +135,11 @@ ROWS: list[tuple[str, bytes, Ways]] = [
         },
     ),
     ("--workers 2", connections(2), {"flows of two": 2, "nothing is shown, so there is no round": 0}),
+    ("--workers 2", connections(2, UNMATCHED), {"flows of two": 2, "told as met, so there is no round": 0}),
     (
-        "--workers 2",
+        "--workers 2 --block 4",
         connections(2, UNMATCHED),
-        {"flows of two": 2, "one is made ready beside the other": 1, "two blocks are summed": 2},
+        {"flows of two": 2, "one is made ready beside the other": 1, "two blocks of each are summed": 2},
     ),
     ("--workers 2", connections(2, NOTHING_GRANTED), {"flows of two": 2, "told as met, so there is no round": 0}),
     (
@@ -160,9 +162,13 @@ ROWS: list[tuple[str, bytes, Ways]] = [
         },
     ),
     ("--workers 4", connections(63), {"flows": 4}),
-    ("--workers 4", connections(63, UNMATCHED), {"flows": 4, "three are made ready beside one": 3, "sums": 4}),
     (
-        "--workers 4",
+        "--workers 4 --block 4",
+        connections(63, UNMATCHED),
+        {"flows": 4, "three are made ready beside one": 3, "sums": 4},
+    ),
+    (
+        "--workers 4 --block 4",
         connections(64, UNMATCHED),
         {
             "flows": 4,
@@ -172,7 +178,7 @@ ROWS: list[tuple[str, bytes, Ways]] = [
         },
     ),
     (
-        "--workers 4",
+        "--workers 4 --block 4",
         connections(5000, UNMATCHED),
         {
             "chunks ahead": 4,

@@ -13,11 +13,11 @@ ghost use Rattle.audit_core.specs.code.StreamRows.{idle_rows};
 
 use crate::rows::{StreamRow, idle_rows, meet, opens, rising_rows};
 use audit_terms::{
-    Change, ConnectionState, FIRST_WINDOW, Finding, Frame, Item, Kind, Sides, cut_at_stop,
-    initial_after, keep_shown, put_in_order, say_if,
+    Change, ConnectionState, FIRST_WINDOW, Finding, Frame, Item, Sides, cut_at_stop, initial_after,
+    keep_shown, put_in_order,
 };
 use fault_rules::{keep_last, say_connection, say_local};
-use settings_pair::{Pairs, pair};
+use settings_pair::{Pairs, pair, say_unmatched};
 use std::alloc::{AllocError, Global};
 
 /// The plain pass over a connection's frames in capture order: all findings, in order, up to and including the first
@@ -154,7 +154,5 @@ fn say_alone(
         (finding_at UnmatchedAck frame.now.number frame.now.stream frame.now.side (pos 0))) }
 {
     say_local(found, &previous.of(frame.side), frame)?;
-    let kind = Kind::UnmatchedAck;
-    let ack = Finding::at(kind, frame.number, frame.stream, frame.side, 0);
-    say_if(found, frame.body.is_ack() & change.is_none(), ack)
+    say_unmatched(found, frame, change)
 }

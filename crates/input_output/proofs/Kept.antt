@@ -1,15 +1,15 @@
 -- What is kept of a capture, read by read.
 use Rattle.std.proofs.Common.{◌≡◌, ◌⊎◌, ◌∙◌, ℕ, zero, suc, ◌+◌, ◌^◌, ◌<◌, ◌≤◌, List, [], ◌++◌, length, take, drop}
 use Rattle.std.proofs.Common.{length-append, take_at, Option, Some, None, IfSome, inl, inr, sym, ap, subst}
-use Rattle.std.proofs.Common.{Result, Ok, Err, IfErr, IfOk, IsErr, OnErr, OnOk, arith, refl, rules, ◌∷◌}
+use Rattle.std.proofs.Common.{Result, Ok, Err, IfErr, IfOk, IsErr, IsOk, OnErr, OnOk, arith, refl, rules, ◌∷◌}
 use Rattle.std.specs.Io.{StartsWith, appended_bytes}
 use Rattle.std.specs.Io.KnownBytes.{Consumes, IsAtEnd}
-use Rattle.std.proofs.KnownBytes.{starts_with_rest}
 use Rattle.std.proofs.Transfers.{drop-appended, starts_with_length, starts_with_trans}
 use Rattle.std.specs.Result.{result_and}
 use Rattle.std.proofs.lemmas.Result.{on_ok_weaker}
-use Rattle.std.proofs.lemmas.List.{append-nil, append_assoc, length-drop, take_all}
-use Rattle.input_output.specs.code.Front.{SurvivesAppends}
+use Rattle.std.proofs.Math.Seq.{take-add}
+use Rattle.std.proofs.lemmas.List.{append-nil, length-drop, length-take, take-take, take_all}
+use Rattle.input_output.specs.code.Front.{StandsInFront}
 use Rattle.input_output.specs.Account.{IsReadToEnd, given, kept}
 use Rattle.input_output.specs.code.Reading.{HasConsumed, HasGrown, HasPassedOver, HasReadOn, HaveAnswered}
 use Rattle.input_output.specs.code.Reading.{IsOpenBelow}
@@ -32,6 +32,11 @@ pub both_well : (P : Type 0) (one other both : Result (Unit {0}) ReadFault) → 
     → OnOk one (OnOk other P) → OnOk both P
 both_well P (Ok _) other both is well = rw is well
 both_well P (Err fault) other both is well = rw is tt
+
+-- what holds where an answer is good, of one that is
+pub where_ok : {T E P : Type 0} (answer : Result T E) → IsOk answer → OnOk answer P → P
+where_ok (Ok _) good is = is
+where_ok (Err e) good is = cc
 
 -- how many reads can follow at most, where so many bytes more are to be kept
 abbrev pub reads_left : ReadState → ℕ → ℕ
@@ -228,11 +233,30 @@ module _ {R : Type 0} where
     | inr ended ↦ inl (ended, rw ended at sound.calls)
   ]
 
--- a walk that stands of what was kept stands of what is kept, where that has it in front
+-- a walk that stands for all of these bytes stands for a front of them
+pub stands_whole : {W : Type 0} (stands : List ℕ → W → Type 0) (bytes : List ℕ) (walk : W) → stands bytes walk
+    → StandsInFront stands bytes walk
+stands_whole stands bytes walk is = (
+  length bytes,
+  omega arith,
+  subst (λ front. stands front walk) (sym (take_all (length bytes) bytes (omega arith))) is,
+)
+
+-- one that stands for a front of what was kept stands for a front of what is kept, where that has it in front
 pub walk_stays : {W : Type 0} (stands : List ℕ → W → Type 0) (first new : List ℕ) (walk : W)
-    → StartsWith new first → SurvivesAppends stands first walk → SurvivesAppends stands new walk
-walk_stays stands first new walk front is more =
-    let later : List ℕ = drop (length first) new in
-    let whole : new ++ more ≡ first ++ (later ++ more) =
-    ap (λ l. l ++ more) (starts_with_rest new first front) ∙ append_assoc first later more in
-    subst (λ bytes. stands bytes walk) (sym whole) (is (later ++ more))
+    → StartsWith new first → StandsInFront stands first walk → StandsInFront stands new walk
+walk_stays stands first new walk front (n, within, is) = (
+  n,
+  omega (arith, within, starts_with_length new first front),
+  subst (λ bytes. stands bytes walk) (ap (take n) (sym front) ∙ take-take n (length first) new within) is,
+)
+
+-- what lies together behind a front goes on from it
+pub front_more : (fed most : ℕ) (all more : List ℕ) → more ≡ take most (drop fed all)
+    → take fed all ++ more ≡ take (fed + length more) all
+front_more fed most all more is =
+    let size : length more ≤ most = omega (arith, ap length is, length-take most (drop fed all)) in
+    let same : take (length more) (drop fed all) ≡ more =
+    sym (take-take (length more) most (drop fed all) size) ∙ ap (take (length more)) (sym is)
+    ∙ take_all (length more) more (omega arith) in
+    sym (take-add fed (length more) all ∙ ap (λ l. take fed all ++ l) same)

@@ -2,7 +2,7 @@ ghost use Rattle.std.specs.Prelude.{◌≡◌, ◌+◌, ◌^◌, ◌<◌, ◌≤
 ghost use Rattle.std.specs.Prelude.{Ok};
 ghost use Rattle.std.specs.Bool.{Decides};
 ghost use Rattle.input_output.specs.Account.{IsUnread, kept, reads};
-ghost use Rattle.input_output.specs.code.Front.{SurvivesAppends};
+ghost use Rattle.input_output.specs.code.Front.{StandsInFront};
 ghost use Rattle.input_output.specs.code.Reading.{HasTakenOut, HaveAnswered, IsOpenBehind, IsOpenBelow};
 ghost use Rattle.input_output.specs.code.Reading.{IsReadingFault};
 ghost use Rattle.input_output.specs.code.Reads.{AreCallsIn, HasRead, IsStateAfter};
@@ -189,9 +189,9 @@ impl<R: Read> CaptureReader<R> {
         walk: &mut W,
     ) -> Result<(), ReadFault>
         requires reader { IsOpenBelow (2 ^ 31) self.old }
-        requires walk { SurvivesAppends W.stands (kept self.old) walk.old }
+        requires walk { StandsInFront W.stands (kept self.old) walk.old }
         ensures read { HaveAnswered R.remaining (2 ^ 31) self.old.source (kept self.old) self.new result }
-        ensures walk { OnOk result (SurvivesAppends W.stands (kept self.new) walk.new) }
+        ensures walk { OnOk result (StandsInFront W.stands (kept self.new) walk.new) }
     {
         if let Some(full) = self.take_full(ahead)? {
             return self.read_behind(full, ahead, walk);
@@ -227,9 +227,9 @@ impl<R: Read> CaptureReader<R> {
         walk: &mut W,
     ) -> Result<(), ReadFault>
         requires reader { IsOpenBehind full self.old }
-        requires walk { SurvivesAppends W.stands full walk.old }
+        requires walk { StandsInFront W.stands full walk.old }
         ensures read { HaveAnswered R.remaining (2 ^ 31) self.old.source full self.new result }
-        ensures walk { OnOk result (SurvivesAppends W.stands (kept self.new) walk.new) }
+        ensures walk { OnOk result (StandsInFront W.stands (kept self.new) walk.new) }
     {
         let limit = BESIDE_BYTES.min(LIMIT - full.len());
         let read = self.read_beside(limit, ahead, &full, walk);
@@ -251,9 +251,9 @@ impl<R: Read> CaptureReader<R> {
         walk: &mut W,
     ) -> Result<(), ReadFault>
         requires reader { IsOpenBelow limit self.old }
-        requires walk { SurvivesAppends W.stands full.now walk.old }
+        requires walk { StandsInFront W.stands full.now walk.old }
         ensures read { HaveAnswered R.remaining limit self.old.source (kept self.old) self.new result }
-        ensures walk { OnOk result (SurvivesAppends W.stands full.now walk.new) }
+        ensures walk { OnOk result (StandsInFront W.stands full.now walk.new) }
     {
         let rt = ahead.rt;
         let alloc = ahead.alloc;

@@ -1,7 +1,7 @@
-//! The bytes of a capture, and walks that advance over them while they are read.
+//! The bytes of a capture, and walks that are fed them while they are read.
 
-ghost use Rattle.std.specs.Prelude.{◌≤◌, ◌^◌, List, ℕ, OnOk, length};
-ghost use Rattle.input_output.specs.code.Front.{SurvivesAppends};
+ghost use Rattle.std.specs.Prelude.{◌≡◌, ◌+◌, ◌++◌, ◌≤◌, ◌^◌, List, ℕ, OnOk, length};
+ghost use Rattle.input_output.specs.code.Front.{StandsInFront};
 
 use crate::chunks::Chunks;
 use std::alloc::{AllocError, Global};
@@ -14,16 +14,42 @@ pub const CAPTURE_CHUNK: usize = 1_048_576;
 /// The bytes of a capture, held in chunks.
 pub type Capture<'a> = Chunks<'a, u8, CAPTURE_CHUNK>;
 
-/// A walk over the front of a capture, behind which more bytes may come.
+/// A walk that is fed the bytes of a capture in order, each of them once.
 ///
-/// The reader advances the walk over new bytes without knowing its purpose.
+/// What it needs of bytes that it was fed, it keeps itself: so whoever feeds it need not know its purpose, nor keep the
+/// bytes.
 pub trait FrontWalk {
-    /// The walk is right of a capture with these bytes.
+    /// The walk stands for a capture that has these bytes so far.
     ghost stands: { List ℕ → Self → Type 0 };
 
-    /// Advances over what the capture has by now. Where memory runs out, nothing is known of the walk.
-    fn advance(&mut self, alloc: Global, capture: &Capture<'_>) -> Result<(), AllocError>
-        requires walk { SurvivesAppends stands capture.now self.old }
-        requires short { length capture.now ≤ 2 ^ 31 }
-        ensures { OnOk result (SurvivesAppends stands capture.now self.new) };
+    /// How many bytes it was fed.
+    fn fed(&self) -> usize
+        requires { (front : List ℕ) × stands front self.now × (length front ≤ 2 ^ 31) }
+        ensures { (front : List ℕ) → stands front self.now → result ≡ length front };
+
+    /// Takes the bytes behind those that it was fed. Where memory runs out, nothing is known of the walk.
+    fn feed(&mut self, alloc: Global, more: &[u8]) -> Result<(), AllocError>
+        requires { (front : List ℕ) × stands front self.old × (length front + length more.now ≤ 2 ^ 31) }
+        ensures { (front : List ℕ) → stands front self.old → OnOk result (stands (front ++ more.now) self.new) };
+}
+
+/// Feeds a walk the bytes of a capture behind those that it was fed, as they lie. Where memory runs out, nothing is
+/// known of the walk.
+pub fn feed_rest<W: FrontWalk>(
+    alloc: Global,
+    capture: &Capture<'_>,
+    walk: &mut W,
+) -> Result<(), AllocError>
+    requires walk { StandsInFront W.stands capture.now walk.old }
+    requires short { length capture.now ≤ 2 ^ 31 }
+    ensures whole { OnOk result (W.stands capture.now walk.new) }
+    ensures front { OnOk result (StandsInFront W.stands capture.now walk.new) }
+{
+    let mut fed = walk.fed();
+    while fed < capture.len() {
+        let more = capture.from(fed);
+        walk.feed(alloc, more)?;
+        fed += more.len();
+    }
+    Ok(())
 }

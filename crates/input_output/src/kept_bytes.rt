@@ -4,11 +4,11 @@ ghost use Rattle.std.specs.Prelude.{◌≡◌, ◌+◌, ◌++◌, ◌^◌, ◌<�
 ghost use Rattle.std.specs.Prelude.{◌∷◌, IfNone, IfSome, OnErr};
 ghost use Rattle.std.specs.Io.{StartsWith, appended_bytes};
 ghost use Rattle.input_output.specs.Calls.{failed};
-ghost use Rattle.input_output.specs.code.Front.{SurvivesAppends};
+ghost use Rattle.input_output.specs.code.Front.{StandsInFront};
 ghost use Rattle.input_output.specs.code.Reads.{HasCalled, HasRead, IsGrown};
 
 use crate::chunks_ahead::{ChunksAhead, fill_up};
-use crate::front::{CAPTURE_CHUNK, Capture, FrontWalk};
+use crate::front::{CAPTURE_CHUNK, Capture, FrontWalk, feed_rest};
 use crate::traced_reader::{FailedRead, TracedReader};
 use std::alloc::{AllocError, Global};
 use std::io::Read;
@@ -168,15 +168,15 @@ impl KeptBytes {
         ahead: &ChunksAhead<'_, T>,
         walk: &mut W,
     ) -> Result<(), AllocError>
-        requires walk { SurvivesAppends W.stands self.now.kept walk.old }
+        requires walk { StandsInFront W.stands self.now.kept walk.old }
         requires short { length self.now.kept ≤ 2 ^ 31 }
-        ensures { OnOk result (SurvivesAppends W.stands self.now.kept walk.new) }
+        ensures { OnOk result (StandsInFront W.stands self.now.kept walk.new) }
     {
         if self.filled < self.last.len() || !ahead.is_alone() {
             return Ok(());
         }
         let capture = self.capture(ahead.alloc)?;
-        walk.advance(ahead.alloc, &capture)
+        feed_rest(ahead.alloc, &capture, walk)
     }
 }
 
@@ -212,14 +212,14 @@ impl FullChunks {
 
     /// Advances a walk over the bytes, and then tells that it is done.
     pub(crate) fn walk<W: FrontWalk>(&self, alloc: Global, walk: &mut W) -> Result<(), AllocError>
-        requires { SurvivesAppends W.stands self.now walk.old }
-        ensures { OnOk result (SurvivesAppends W.stands self.now walk.new) }
+        requires { StandsInFront W.stands self.now walk.old }
+        ensures { OnOk result (StandsInFront W.stands self.now walk.new) }
     {
         let Ok(capture) = Capture::with_last(alloc, self.chunks.as_slice(), &[]) else {
             self.is_walked.store(1, Ordering::SeqCst);
             return Err(AllocError);
         };
-        let walked = walk.advance(alloc, &capture);
+        let walked = feed_rest(alloc, &capture, walk);
         self.is_walked.store(1, Ordering::SeqCst);
         walked
     }

@@ -15,8 +15,8 @@
 //! - The first chunk of a capture grows, and may move as it does; bytes behind it never move. Other threads allocate
 //!   later chunks ahead ([`ChunksAhead`]), since the first use of memory takes most of the time of reading. With one
 //!   worker, or where no thread can be started, the reading thread allocates them.
-//! - [`keep_and_walk`] advances a [`FrontWalk`] over new bytes without knowing its purpose. docs/ARCHITECTURE.md says
-//!   on which thread and how far at a time ("The data on its way").
+//! - [`keep_and_walk`] feeds new bytes to a [`FrontWalk`] without knowing its purpose. docs/ARCHITECTURE.md says on
+//!   which thread and how far at a time ("The data on its way"). A walk needs no byte twice, and none that was kept.
 //! - A [`TableHash`] hashes by SipHash with a key drawn at each start; it cannot be made in another way. No answer of a
 //!   table depends on the key, and no contract names it (docs/DECISIONS.md, "Program and repository").
 //! - The prover refuses: a read that reports a full buffer, a reading that is told as failed though each read gave
@@ -44,7 +44,7 @@ pub use capture_reader::{CaptureReader, LIMIT, ReadState};
 pub use chunks::Chunks;
 pub use chunks_ahead::ChunksAhead;
 pub use fault::ReadFault;
-pub use front::{CAPTURE_CHUNK, Capture, FrontWalk};
+pub use front::{CAPTURE_CHUNK, Capture, FrontWalk, feed_rest};
 pub use reading::{keep_and_walk, keep_up_to, pass_over};
 pub use report_writer::{ReportWriter, WriteFault};
 pub use table_hash::TableHash;

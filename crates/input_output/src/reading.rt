@@ -1,5 +1,5 @@
 ghost use Rattle.std.specs.Prelude.{◌≡◌, ◌^◌, OnOk};
-ghost use Rattle.input_output.specs.code.Front.{SurvivesAppends};
+ghost use Rattle.input_output.specs.code.Front.{StandsInFront};
 ghost use Rattle.input_output.specs.Account.{kept};
 ghost use Rattle.input_output.specs.code.Reading.{HasConsumed, HasGrown, HasPassedOver, HaveEnded, IsOpenWithin};
 ghost use Rattle.input_output.specs.code.Reading.{IsSound};
@@ -46,10 +46,10 @@ pub fn keep_and_walk<T: Threads, R: Read, W: FrontWalk + Send>(
     walk: &mut W,
 ) -> Result<(), ReadFault>
     requires reader { IsOpenWithin (2 ^ 31) reader.old }
-    requires walk { SurvivesAppends W.stands (kept reader.old) walk.old }
+    requires walk { StandsInFront W.stands (kept reader.old) walk.old }
     ensures grown { HasGrown (2 ^ 31) (kept reader.old) reader.new }
     ensures bytes { OnOk result (HasConsumed R.remaining reader.old reader.new) }
-    ensures walk { OnOk result (SurvivesAppends W.stands (kept reader.new) walk.new) }
+    ensures walk { OnOk result (StandsInFront W.stands (kept reader.new) walk.new) }
     ensures ended { HaveEnded R.remaining (2 ^ 31) reader.new result }
 {
     let mut read = Ok(());

@@ -7,11 +7,6 @@ use Rattle.packet_heads.specs.declared.packets.Packet.TheVariants.{Segment}
 use Rattle.packet_heads.specs.code.Order.{AreNumberedFrom, PayloadsRise, TimesFit}
 use Rattle.packet_heads.specs.code.Standing.{AllStand}
 
--- rows that rise from a place to the end have it before the end
-pub RiseFrom-le : (from size : ℕ) (rows : List Record) → RiseFrom from size rows → from ≤ size
-RiseFrom-le from size [] h = h
-RiseFrom-le from size (row ∷ rows) h = omega (arith, h.0, RiseFrom-le (row.start + row.length) size rows h.1)
-
 -- as many packets as rows, numbered as they are, with payloads that rise as they do up to an end within the capture
 pub record AreAlong (number from size : ℕ) (rows : List Record) (packets : List Packet) : Type 0 where
   pub count : length packets ≡ length rows

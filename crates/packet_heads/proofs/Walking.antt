@@ -1,80 +1,86 @@
--- What a walk has made stands, whatever follows; and what one record more makes of it.
+-- What is handed on of records, and what it is to the capture in which they stand.
 use denote.RawPtr.{null_ptr}
-use Rattle.std.proofs.Common.{◌≡◌, ℕ, ◌+◌, ◌-◌, ◌^◌, ◌<◌, ◌≤◌, List, [], ◌∷◌, ◌++◌, length, map, drop, refl, Option}
-use Rattle.std.proofs.Common.{Global, append-nil, length-drop, sym, ap, subst, ◌∙◌, arith}
+use Rattle.std.proofs.Common.{◌≡◌, ℕ, ◌+◌, ◌-◌, ◌^◌, ◌<◌, ◌≤◌, List, [], ◌∷◌, ◌++◌, length, map, drop, take, refl}
+use Rattle.std.proofs.Common.{Option, Global, sym, ap, subst, ◌∙◌, arith}
+use Rattle.std.specs.Prelude.{slice_range}
 use Rattle.std.specs.List.{enumerate_from}
-use Rattle.std.proofs.lemmas.List.{drop-append-le, length-map, length-take, take-append-le}
-use Rattle.pcap_records.specs.code.Place.{RiseFrom}
-use Rattle.pcap_records.specs.code.Walk.{AreAll, IsThrough}
-use Rattle.pcap_records.specs.laws.Readings.{MoreBytesKeepAWalk}
+use Rattle.std.proofs.lemmas.List.{drop-drop, drop-take, length-append, length-map, take-take}
+use Rattle.pcap_records.specs.code.Walk.{AreAll, AreCaptured, Captured, IsNext, rows_of}
 use Rattle.pcap_records.specs.declared.pcap_record.Record.{Record}
 use Rattle.pcap_records.specs.declared.pcap_record.Records.{Records}
 use Rattle.packet_heads.specs.declared.packets.Packet.{Packet}
+use Rattle.packet_heads.specs.declared.packets.Packet.TheVariants.{Segment}
+use Rattle.packet_heads.specs.declared.stage.PacketStage.{PacketStage}
 use Rattle.packet_heads.specs.declared.walk.PacketWalk.{PacketWalk}
 use Rattle.packet_heads.specs.Decision.{decision_on, packet_decision}
-use Rattle.packet_heads.specs.code.Marks.{packet_of}
+use Rattle.packet_heads.specs.code.Handed.{AreHanded, ArePayloadsOf, Handed, IsHanded, IsNextPacket, packets_among}
+use Rattle.packet_heads.specs.code.Handed.{payload_in}
+use Rattle.packet_heads.specs.code.Order.{AreNumberedFrom}
 use Rattle.packet_heads.specs.code.Standing.{decisions_from, StandsIn, AreDecided}
-use Rattle.packet_heads.specs.code.Walk.{AreInOrder, ArePacketsOf, HasMade, IsFrontOf, IsPacketWalkIn, made_by}
-use Rattle.packet_heads.proofs.Rows.{AreAlong, RiseFrom-le, along}
+use Rattle.packet_heads.specs.code.Walk.{HasDecoded, HasMade, HasMet}
+use Rattle.packet_heads.proofs.Rows.{along}
 
--- the decision on a record is by its captured bytes, whatever bytes come behind them
-decision-more : (link number : ℕ) (row : Record) (capture more : List ℕ) → row.start + row.length ≤ length capture
-    → packet_decision link number row (capture ++ more) ≡ packet_decision link number row capture
+-- one packet for each record
+handed_count : (link number : ℕ) (seen : List Captured) (handed : List Handed) → AreHanded link number seen handed
+    → length handed ≡ length seen
+handed_count link number [] [] are = refl
+handed_count link number (one ∷ seen) (h ∷ handed) are =
+    omega (arith, handed_count link (number + 1) seen handed are.1)
+handed_count link number _ _ are = absurd are
+
+-- one more, with the next number
+handed_push : (link number next : ℕ) (seen : List Captured) (one : Captured) (handed : List Handed) (h : Handed)
+    → AreHanded link number seen handed → next ≡ number + length seen → IsHanded link next one h
+    → AreHanded link number (seen ++ one ∷ []) (handed ++ h ∷ [])
+handed_push link number next [] one [] h are is more =
+    (subst (λ n. IsHanded link n one h) (let here : next ≡ number = omega (arith, is) in here) more, tt)
+handed_push link number next (first ∷ seen) one (f ∷ handed) h are is more =
+    (are.0, handed_push link (number + 1) next seen one handed h are.1 (omega (arith, is)) more)
+handed_push link number next _ one _ h are is more = absurd are
+
+-- packets that are handed on are the decisions on the records of the capture
+decided : (link number : ℕ) (seen : List Captured) (handed : List Handed) (capture : List ℕ)
+    → AreHanded link number seen handed → AreCaptured capture seen
+    → AreDecided link number (rows_of seen) capture (packets_among handed)
 unfolding packet_decision
-decision-more link number row capture more within =
-    ap (decision_on link number row) (rw (
-      drop-append-le row.start capture more (omega (arith, within)),
-      take-append-le (row.start + row.length - row.start) (drop row.start capture) more
-          (omega (arith, length-drop row.start capture, within)),
-    ))
+decided link number [] [] capture are captured = record { exact = refl; stand = tt }
+decided link number (one ∷ seen) (h ∷ handed) capture are captured =
+    let later = decided link (number + 1) seen handed capture are.1 captured.1 in
+    let here : h.0 ≡ packet_decision link number one.0 capture =
+    are.0.decided ∙ ap (decision_on link number one.0) captured.0.1 in
+    record { exact = cc (later.exact, here); stand = (are.0.stands, later.stand) }
+decided link number _ _ capture are captured = absurd are
 
--- and so are those on all records before an end of a front
-decisions-more : (link number from end : ℕ) (rows : List Record) (capture more : List ℕ) → RiseFrom from end rows
-    → end ≤ length capture
-    → decisions_from link number rows (capture ++ more) ≡ decisions_from link number rows capture
-decisions-more link number from end [] capture more rise within = refl
-decisions-more link number from end (row ∷ rows) capture more rise within = rw (
-  decision-more link number row capture more
-      (omega (arith, within, RiseFrom-le (row.start + row.length) end rows rise.1)),
-  decisions-more link (number + 1) (row.start + row.length) end rows capture more rise.1 within,
-)
+-- what stands within a record's captured bytes stands within the capture
+within_record : (capture packet : List ℕ) (start count lo hi : ℕ)
+    → packet ≡ slice_range capture start (start + count) → start ≤ lo → lo ≤ hi → hi ≤ start + count
+    → slice_range packet (lo - start) (hi - start) ≡ slice_range capture lo hi
+within_record capture packet start count lo hi is low order high =
+    let n = lo - start in
+    let m = start + count - lo in
+    let k = hi - lo in
+    let whole : start + count - start ≡ n + m = omega (arith, low, order, high) in
+    let size : hi - start - n ≡ k = omega (arith, low, order) in
+    ap (λ l. take (hi - start - n) (drop n l)) (is ∙ ap (λ c. take c (drop start capture)) whole)
+    ∙ ap (take (hi - start - n)) (drop-take n m (drop start capture))
+    ∙ ap (λ c. take c (take m (drop n (drop start capture)))) size
+    ∙ take-take k m (drop n (drop start capture)) (omega (arith, low, order, high))
+    ∙ ap (take k) (drop-drop n start capture)
+    ∙ ap (λ d. take k (drop d capture)) (let there : start + n ≡ lo = omega (arith, low) in there)
 
--- what a walk has made stands, whatever bytes come behind
-pub survives : MoreBytesKeepAWalk → (front : List ℕ) (walk : PacketWalk) → HasMade front walk
-    → IsPacketWalkIn front walk
-survives keep front walk is more =
-    let read = is.passed.read in
-    record {
-      rows = is.rows;
-      passed = keep front more is.rows walk.records is.passed;
-      count = is.count;
-      made = record {
-        exact = is.made.exact
-            ∙ sym (decisions-more walk.records.link 1 24 walk.records.at is.rows front more read.placed read.high);
-        stand = is.made.stand;
-      };
-      sound = is.sound;
-    }
-
--- so it is right of the front itself
-pub stands_now : (front : List ℕ) (walk : PacketWalk) → IsPacketWalkIn front walk → HasMade front walk
-stands_now front walk is = subst (λ (bytes : List ℕ). HasMade bytes walk) (append-nil front) (is [])
-
--- one packet more, with the next number
-pub decided-push : (link number next : ℕ) (rows : List Record) (row : Record) (capture : List ℕ) (packets : List Packet)
-    (packet : Packet) → AreDecided link number rows capture packets → next ≡ number + length rows
-    → packet ≡ packet_decision link next row capture → StandsIn next row packet
-    → AreDecided link number (rows ++ row ∷ []) capture (packets ++ packet ∷ [])
-decided-push link number next [] row capture [] packet before is decided stands =
-    rw (let here : number ≡ next = omega (arith, is) in here)
-    (record { exact = ap (λ (p : Packet). p ∷ []) decided; stand = (stands, tt) })
-decided-push link number next (first ∷ rows) row capture (p ∷ packets) packet before is decided stands =
-    let rest : packets ≡ decisions_from link (number + 1) rows capture = cc (before.exact) in
-    let same : p ≡ packet_decision link number first capture = cc (before.exact) in
-    let later = decided-push link (number + 1) next rows row capture packets packet
-    (record { exact = rest; stand = before.stand.1 }) (omega (arith, is)) decided stands in
-    record { exact = cc (later.exact, same); stand = (before.stand.0, later.stand) }
-decided-push link number next _ row capture _ packet before is decided stands = absurd before.stand
+-- so the payloads are those of the capture
+payloads : (link number : ℕ) (seen : List Captured) (handed : List Handed) (capture : List ℕ)
+    → AreHanded link number seen handed → AreCaptured capture seen → ArePayloadsOf capture handed
+payloads link number [] [] capture are captured = tt
+payloads link number (one ∷ seen) ((Segment s, payload) ∷ handed) capture are captured =
+    let stands = are.0.stands in (
+      are.0.payload
+          ∙ within_record capture one.1 one.0.start one.0.length s.lo s.hi captured.0.1 stands.2 stands.3 stands.4,
+      payloads link (number + 1) seen handed capture are.1 captured.1,
+    )
+payloads link number (one ∷ seen) (h ∷ handed) capture are captured =
+    payloads link (number + 1) seen handed capture are.1 captured.1
+payloads link number _ _ capture are captured = absurd are
 
 -- the decisions on all records, as the code counts them
 decisions-numbered : (link number : ℕ) (rows : List Record) (capture : List ℕ)
@@ -99,55 +105,72 @@ records_of alloc link rows cut few = record {
   cut = cut;
 }
 
--- the packets of a walk stand along its records
-walked : (capture : List ℕ) (walk : PacketWalk) (is : HasMade capture walk)
-    → AreAlong 1 0 (length capture) is.rows (made_by walk)
-walked capture walk is =
-    let read = is.passed.read in
-    along 1 24 0 walk.records.at (length capture) is.rows _ (omega arith) read.high read.placed read.timely
-    is.made.stand
+-- the number that a segment has
+numbered : (number : ℕ) (row : Record) (packet : Packet) → StandsIn number row packet
+    → AreNumberedFrom number (packet ∷ [])
+numbered number row (Segment s) stands = (stands.0, tt)
+numbered number row _ stands = tt
 
--- those of a walk that is through are the packets of the capture
-pub packets_of_walk : Global → (capture : List ℕ) (walk : PacketWalk) (cut : Option ℕ)
-    → HasMade capture walk → IsThrough capture walk.records → AreAll capture walk.count walk.records cut
-    → length capture < 2 ^ 31 → ArePacketsOf capture (record { packets = walk.packets; cut = cut })
-packets_of_walk alloc capture walk cut is through all short =
-    let few : length is.rows < 2 ^ 63 = omega (arith, is.passed.read.few, is.passed.read.high, short) in
-    let records : Records = records_of alloc walk.records.link is.rows cut few in
-    record {
-      records = records;
-      reading = all records is.passed through (sym is.count) refl refl;
-      cut = refl;
-      exact = is.made.exact ∙ decisions-numbered walk.records.link 1 is.rows capture;
-    }
+module _ {V : Type 0} (after : List Handed → V → Type 0) where
+  -- the packet of the next record comes next
+  pub next_packet : (link next : ℕ) (seen : List Captured) (row : Record) (bytes : List ℕ) (packet : Packet)
+      (stage : PacketStage V) → (is : HasDecoded after link seen stage) → IsNext link seen row bytes
+      → next ≡ stage.count + 1 → StandsIn next row packet → IsNextPacket is.handed packet
+  next_packet link next seen row bytes packet stage is comes count stands =
+      let same = handed_count link 1 seen is.handed is.are in
+      let here : next ≡ length is.handed + 1 = omega (arith, same, count, is.count) in
+      record {
+        few = omega (arith, same, comes.few, comes.within);
+        numbered = subst (λ n. AreNumberedFrom n (packet ∷ [])) here (numbered next row packet stands);
+      }
 
--- and they are in order
-pub in_order : (capture : List ℕ) (walk : PacketWalk) → HasMade capture walk → length capture ≤ 2 ^ 31
-    → AreInOrder (length capture) (made_by walk)
-in_order capture walk is short =
-    let along = walked capture walk is in
-    record {
-      few = omega (arith, along.count, is.passed.read.few, is.passed.read.high, short);
-      numbered = along.numbered;
-      payloads = along.payloads;
-      times = along.times;
-    }
+  -- a stage was handed one record more
+  pub decoded_more : (link next : ℕ) (seen : List Captured) (row : Record) (bytes payload : List ℕ) (packet : Packet)
+      (old new : PacketStage V) → (is : HasDecoded after link seen old) → next ≡ old.count + 1
+      → packet ≡ decision_on link next row bytes → StandsIn next row packet → payload ≡ payload_in row bytes packet
+      → new.count ≡ next → after (is.handed ++ (packet, payload) ∷ []) new.visitor
+      → HasDecoded after link (seen ++ (row, bytes) ∷ []) new
+  decoded_more link next seen row bytes payload packet old new is count decides stands pays now visited =
+      let more : IsHanded link next (row, bytes) (packet, payload) =
+      record { decided = decides; stands = stands; payload = pays } in
+      record {
+        handed = is.handed ++ (packet, payload) ∷ [];
+        count = omega (arith, now, count, is.count, length-append seen ((row, bytes) ∷ []));
+        are = handed_push link 1 next seen (row, bytes) is.handed (packet, payload) is.are
+            (omega (arith, count, is.count)) more;
+        visited = visited;
+      }
 
--- there are few records of a walk, and so few marks
-pub few_marks : (capture : List ℕ) (walk : PacketWalk) → HasMade capture walk → length capture ≤ 2 ^ 31
-    → length walk.packets.marks < 2 ^ 31
-few_marks capture walk is short =
-    omega (
-      arith,
-      (walked capture walk is).count,
-      length-map walk.packets.marks (packet_of walk.packets.segments),
-      is.passed.read.few,
-      is.passed.read.high,
-      short,
-    )
-
--- packets that stand in front stand in front of one more
-pub front-push : (front all : List Packet) (packet : Packet) → IsFrontOf front all
-    → IsFrontOf front (all ++ packet ∷ [])
-front-push front all packet is =
-    take-append-le (length front) all (packet ∷ []) (omega (arith, ap length is, length-take (length front) all)) ∙ is
+  -- a walk that was fed a whole capture has handed on all of its packets
+  pub has_met : Global → (capture : List ℕ) (walk : PacketWalk V) (cut : Option ℕ) → (is : HasMade after capture walk)
+      → length capture < 2 ^ 31
+      → AreAll (HasDecoded after) walk.records walk.records.visitor.count cut
+      → HasMet after capture walk.records.visitor.visitor cut
+  has_met alloc capture walk cut is short reading =
+      let stage = is.at.visited in
+      let link = walk.records.cursor.link in
+      let read = is.at.passed.read in
+      let rows = rows_of is.at.seen in
+      let few : length rows < 2 ^ 63 = omega (arith, read.few, read.high, short) in
+      let records : Records = records_of alloc link rows cut few in
+      let all = decided link 1 is.at.seen stage.handed capture stage.are is.at.captured in
+      let stand = along 1 24 0 walk.records.cursor.at (length capture) rows (packets_among stage.handed) (omega arith)
+      read.high read.placed read.timely all.stand in
+      record {
+        handed = stage.handed;
+        visited = stage.visited;
+        decided = record {
+          records = records;
+          reading = reading capture is records refl
+              (length-map is.at.seen (λ (one : Captured). one.0) ∙ sym stage.count) refl refl;
+          cut = refl;
+          exact = all.exact ∙ decisions-numbered link 1 rows capture;
+        };
+        payloads = payloads link 1 is.at.seen stage.handed capture stage.are is.at.captured;
+        order = record {
+          few = omega (arith, stand.count, read.few, read.high, short);
+          numbered = stand.numbered;
+          payloads = stand.payloads;
+          times = stand.times;
+        };
+      }

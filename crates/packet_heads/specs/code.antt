@@ -5,4 +5,5 @@ pub mod Link
 pub mod Standing
 pub mod Tcp
 pub mod Order
+pub mod Handed
 pub mod Walk

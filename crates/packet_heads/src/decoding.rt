@@ -1,19 +1,16 @@
 //! From a record to what it holds.
 
-ghost use Rattle.std.specs.Prelude.{◌≡◌, ◌+◌, ◌^◌, ◌<◌, ◌≤◌, length, IfOk, IsTrue};
+ghost use Rattle.std.specs.Prelude.{◌≡◌, ◌+◌, ◌^◌, ◌<◌, ◌≤◌, length, IsTrue};
 ghost use Rattle.pcap_records.specs.LinkType.{is_read};
-ghost use Rattle.packet_heads.specs.Decision.{decision_on, packet_decision, segment_of, is_partial};
+ghost use Rattle.packet_heads.specs.Decision.{decision_on, segment_of, is_partial};
 ghost use Rattle.packet_heads.specs.Ipv4.{segment_bytes};
-ghost use Rattle.packet_heads.specs.Link.{packet_of};
 ghost use Rattle.packet_heads.specs.code.Ipv4 as ipv4_code;
 ghost use Rattle.packet_heads.specs.code.Tcp as tcp_code;
 ghost use Rattle.packet_heads.specs.code.Standing.{StandsIn};
 
 use crate::packets::{Endpoint, Packet, Segment};
 use crate::{ipv4, link, tcp};
-use input_output::Capture;
 use pcap_records::Record;
-use std::alloc::{AllocError, Global};
 
 /// The segment in a datagram whose headers are whole, and which begins at this offset of the capture.
 fn segment_of(number: u32, row: &Record, partial: bool, at: usize, datagram: &[u8]) -> Segment
@@ -48,10 +45,11 @@ fn segment_of(number: u32, row: &Record, partial: bool, at: usize, datagram: &[u
 }
 
 /// What a record with these captured bytes holds: the first line of the table that applies.
-// Called for each record that lies together, and for one that was gathered.
-#[inline(always)]
+///
+/// `link` is the link type of the capture, 1 (Ethernet) or 101 (raw IP); `number` is the record's.
+#[inline]
 #[tactic(auto, using(crate::proofs::Headers::stands_anywhere))]
-fn decision_on(link: u16, number: u32, row: &Record, packet: &[u8]) -> Packet
+pub(crate) fn decision_on(link: u16, number: u32, row: &Record, packet: &[u8]) -> Packet
     requires linked { IsTrue (is_read link) }
     requires captured { length packet.now ≡ row.now.length }
     requires place { row.now.start + row.now.length < 2 ^ 32 }
@@ -72,43 +70,4 @@ fn decision_on(link: u16, number: u32, row: &Record, packet: &[u8]) -> Packet
     }
     let at = row.start as usize + start;
     Packet::Segment(segment_of(number, row, partial, at, datagram))
-}
-
-/// What a record holds: the first line of the table that applies to its captured bytes.
-///
-/// `link` is the link type of the capture, 1 (Ethernet) or 101 (raw IP); `number` is the record's. The captured bytes
-/// of `row` are to lie in `capture`, as those of `pcap_records::records` do. They are read where they lie; those that
-/// cross chunks of the capture are gathered first.
-pub fn decode(
-    alloc: Global,
-    link: u16,
-    number: u32,
-    row: &Record,
-    capture: &Capture<'_>,
-) -> Result<Packet, AllocError>
-    requires linked { IsTrue (is_read link) }
-    requires inside { row.now.start + row.now.length ≤ length capture.now }
-    requires short { length capture.now ≤ 2 ^ 31 }
-    ensures decided { IfOk result (λ packet. packet ≡ packet_decision link number row.now capture.now) }
-    ensures placed { IfOk result (StandsIn number row.now) }
-{
-    let (start, length) = (row.start as usize, row.length as usize);
-    if start < capture.len() {
-        let front = capture.from(start);
-        if length <= front.len() {
-            return Ok(decision_on(link, number, row, &front[..length]));
-        }
-    }
-    let packet = gathered(alloc, row, capture)?;
-    Ok(decision_on(link, number, row, &packet))
-}
-
-/// The captured bytes of a record that crosses chunks of the capture, gathered.
-#[cold]
-fn gathered(alloc: Global, row: &Record, capture: &Capture<'_>) -> Result<Vec<u8>, AllocError>
-    requires { row.now.start + row.now.length ≤ length capture.now }
-    ensures { IfOk result (λ packet. packet.items ≡ packet_of row.now capture.now) }
-{
-    let start = row.start as usize;
-    capture.gathered(alloc, start, start + row.length as usize)
 }

@@ -1,7 +1,7 @@
 //! Packets that are made one after the other.
 
 ghost use Rattle.std.specs.Prelude.{◌≡◌, ◌<◌, ◌^◌, [], ◌∷◌, ◌++◌, IfOk, OnOk, length};
-ghost use Rattle.packet_heads.specs.code.Marks.{IsSound, packets_of};
+ghost use Rattle.packet_heads.specs.code.Marks.{IsSound, packets_held};
 
 use crate::growing::Growing;
 use crate::marks::{FIRST_SEGMENT, Mark, mark_of_refused, mark_of_skipped};
@@ -20,8 +20,8 @@ pub struct MadePackets {
 
 impl MadePackets {
     /// No packet.
-    pub(crate) fn new(alloc: Global) -> MadePackets
-        ensures none { packets_of result.marks result.segments ≡ [] }
+    pub fn new(alloc: Global) -> MadePackets
+        ensures none { packets_held result ≡ [] }
         ensures sound { IsSound result }
     {
         MadePackets {
@@ -33,7 +33,7 @@ impl MadePackets {
     /// These packets, from a list. Fails where memory runs out.
     pub fn of(alloc: Global, packets: &[Packet]) -> Result<MadePackets, AllocError>
         requires { length packets.now < 2 ^ 31 }
-        ensures { IfOk result (λ made. packets_of made.marks made.segments ≡ packets.now) }
+        ensures { IfOk result (λ made. packets_held made ≡ packets.now) }
     {
         let mut made = MadePackets::new(alloc);
         for packet in packets {
@@ -44,11 +44,10 @@ impl MadePackets {
 
     /// Appends a packet.
     #[tactic(auto, using(crate::proofs::Marking::one_more))]
-    pub(crate) fn push(&mut self, alloc: Global, packet: Packet) -> Result<(), AllocError>
+    pub fn push(&mut self, alloc: Global, packet: Packet) -> Result<(), AllocError>
         requires sound { IsSound self.old }
         requires room { length self.old.marks < 2 ^ 31 }
-        ensures more { OnOk result (packets_of self.new.marks self.new.segments
-            ≡ packets_of self.old.marks self.old.segments ++ packet ∷ []) }
+        ensures more { OnOk result (packets_held self.new ≡ packets_held self.old ++ packet ∷ []) }
         ensures sound { OnOk result (IsSound self.new) }
     {
         match packet {

@@ -121,12 +121,12 @@ impl<'a> Model for Packets<'a> {
 
 impl<'a> Packets<'a> {
     ghost use Rattle.std.specs.Prelude.{◌≡◌, ◌<◌, ◌≤◌, IfOk, IfSome, IfNone, Some, get_or, length, slice_get};
-    ghost use Rattle.packet_heads.specs.code.Marks.{packets_of};
+    ghost use Rattle.packet_heads.specs.code.Marks.{packets_held};
     ghost use Rattle.packet_heads.specs.code.Standing.{IsPassedOver};
 
     /// The packets that were made, to be read. Fails where memory runs out.
     pub fn of(alloc: Global, made: &'a MadePackets) -> Result<Packets<'a>, AllocError>
-        ensures { IfOk result (λ all. all ≡ packets_of made.now.marks made.now.segments) }
+        ensures { IfOk result (λ all. all ≡ packets_held made.now) }
     {
         Ok(Packets {
             marks: made.marks.lent(alloc)?,

@@ -1,7 +1,7 @@
 -- A record's header, read from the bytes that lie together at its front.
-use Rattle.std.proofs.Common.{◌≡◌, ◌≤◌, ◌<◌, ◌+◌, ◌-◌, ◌^◌, ℕ, List, ◌++◌, Option, Some, None, length, take, drop}
-use Rattle.std.proofs.Common.{take-append-drop, sym, ap, ◌∙◌, arith, length-drop}
-use Rattle.std.proofs.lemmas.List.{drop-append-le}
+use Rattle.std.proofs.Common.{◌≡◌, ◌≤◌, ◌<◌, ◌+◌, ◌^◌, ℕ, List, ◌++◌, Option, Some, None, length, drop}
+use Rattle.std.proofs.Common.{◌-◌, ap, ◌∙◌, arith, length-drop, take}
+use Rattle.std.proofs.lemmas.List.{drop-append-le, take_all}
 use Rattle.std.specs.Prelude.{IfSome, IfNone}
 use Rattle.byteorder.specs.Numbers.{big_from-append, little_from-append}
 use Rattle.pcap_records.specs.declared.format.Endian.{Endian}
@@ -37,23 +37,14 @@ same_record number first unit at front later fits =
     let original = in_front number first 12 front later (omega (arith, fits)) in
     cc
 
--- what a front of 16 bytes or more tells of the next record
-module _ (number : ByteOrder) (first : ReadsFirst number) (unit at size most : ℕ) (front bytes : List ℕ)
-    (long : 16 ≤ length front) (count : length bytes ≡ size - at) (is : front ≡ take most bytes) where
-  same : record_at number unit at bytes ≡ record_at number unit at front
-  same =
-      ap (record_at number unit at) (sym (ap (λ (l : List ℕ). l ++ drop most bytes) is ∙ take-append-drop most bytes))
-      ∙ same_record number first unit at front (drop most bytes) long
+-- the next record by its header, which is there
+pub next_by_header : (number : ByteOrder) (unit at : ℕ) (bytes : List ℕ) (found : Option Record) → 16 ≤ length bytes
+    → IfSome found (λ r. (16 + captured_length number bytes ≤ length bytes) × (r ≡ record_at number unit at bytes))
+    → IfSome found (λ r. r.nanos < 2 ^ 63) → IfNone found (length bytes < 16 + captured_length number bytes)
+    → IsNextRecord number unit at bytes found
+next_by_header number unit at bytes None long some time none = λ begins. omega (arith, begins.1, none)
+next_by_header number unit at bytes (Some r) long some time none = ((long, some.0), some.1, time)
 
-  pub next_by_front : (found : Option Record)
-      → IfSome found (λ r. (16 + captured_length number front ≤ size - at) × (r ≡ record_at number unit at front))
-      → IfSome found (λ r. r.nanos < 2 ^ 63)
-      → IfNone found (size - at < 16 + captured_length number front)
-      → IsNextRecord number unit at bytes found
-  next_by_front None some time none =
-      λ begins. omega (arith, begins.1, ap (λ (r : Record). r.length) same, count, none)
-  next_by_front (Some r) some time none = (
-    (omega (arith, count, some.0), omega (arith, count, some.0, ap (λ (r : Record). r.length) same)),
-    some.1 ∙ sym same,
-    time,
-  )
+-- what stands behind an offset
+pub behind : (at : ℕ) (bytes : List ℕ) → take (length bytes - at) (drop at bytes) ≡ drop at bytes
+behind at bytes = take_all (length bytes - at) (drop at bytes) (omega (arith, length-drop at bytes))

@@ -1,4 +1,5 @@
 pub mod Fronts
 pub mod Sizes
 pub mod Unique
+mod Growing
 mod Walking

@@ -1,7 +1,8 @@
 //! Laws of the definitions. The functions do nothing; their contracts are the laws.
 
 ghost use Rattle.pcap_records.specs.laws.Readings.{OneReading, FrontDecides, AllowedIsShort, HeaderRefuses};
-ghost use Rattle.pcap_records.specs.laws.Readings.{LargestIsTaken, MoreBytesKeepAWalk};
+ghost use Rattle.pcap_records.specs.laws.Readings.{LargestIsTaken};
+ghost use Rattle.pcap_records.specs.laws.Growth.{ReadingGrows};
 
 /// A capture has one reading: link type, records and cut record are the same in any two.
 pub fn one_reading()
@@ -32,8 +33,8 @@ pub fn header_refuses()
     ensures { HeaderRefuses }
 {}
 
-/// What a walk has read of a front of a capture stays right, whatever bytes come behind it.
-#[tactic(auto, using(crate::proofs::Walking::more_bytes_keep_a_walk_lem))]
-pub fn more_bytes_keep_a_walk()
-    ensures { MoreBytesKeepAWalk }
+/// The reading of a capture begins with the reading of any front of it that has the file header.
+#[tactic(auto, using(crate::proofs::Growing::reading_grows_lem))]
+pub fn reading_grows()
+    ensures { ReadingGrows }
 {}

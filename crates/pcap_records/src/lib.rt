@@ -1,11 +1,11 @@
 //! The records of a classic pcap capture (file format version 2.4).
 //!
-//! - [`records`] reads a capture once, forward, and touches no byte of a packet. It takes the four magics of the format
-//!   (either byte order, microseconds or nanoseconds). It returns the whole records in file order and the number of the
-//!   record that the end of the capture cuts, or the first refusal that applies, in the order of [`PcapFault`]. A
-//!   capture lies in chunks (`input_output::Capture`); a record's header is copied only where it crosses two chunks.
-//! - [`RecordWalk`] does the same in steps and keeps no record: while a program reads the capture, it gets each record
-//!   that is complete by then. `records` is such a walk that keeps them.
+//! - [`RecordWalk`] is fed the bytes of a capture in turn (`input_output::FrontWalk`), and hands each record to a
+//!   [`RecordVisitor`] as soon as its last byte was fed. It takes the four magics of the format (either byte order,
+//!   microseconds or nanoseconds). It keeps no record, and of the bytes only those that begin one that is not whole.
+//! - [`records`] feeds it a capture in chunks (`input_output::Capture`), and returns the whole records in file order
+//!   and the number of the record that the end of the capture cuts, or the first refusal that applies, in the order of
+//!   [`PcapFault`].
 //! - The contracts equate both answers with definitions over the bytes alone: `refusal` of `specs/Refusal.antt` looks
 //!   at the header and the length; `IsReading` of `specs/Reading.antt` is a relation by cases: 16 header bytes, the
 //!   captured bytes, then the rest. They share no offset and no loop with the code.
@@ -18,14 +18,15 @@
 //!   bits, frame numbers fit 28, and a place is one word.
 //! - [`laws`]: a capture has one reading; its first 2^31 bytes are refused exactly as the whole, so a program may stop
 //!   reading there; a header that is refused by itself is refused alike whatever follows, so a program need not keep
-//!   what follows; a capture of 2^31 - 1 bytes is not too large, which no test could afford; what a walk has read of a
-//!   front stays right whatever bytes come behind it.
+//!   what follows; a capture of 2^31 - 1 bytes is not too large, which no test could afford; bytes behind a capture add
+//!   records and change none.
 //! - [`worked_examples`]: the four magics, each refusal at the value that decides, the order of refusals, times in both
-//!   units, cut records.
+//!   units, cut records, and one that more bytes complete.
 //! - The prover refuses: a walk that begins at the file header, or goes on in the other byte order; a refusal left out.
 //! - `crate_tests` tests how faults print; whole reports test that a walk succeeds where there is memory.
 #![tactic(auto)]
 
+mod cursor;
 mod faults;
 mod format;
 mod header;
@@ -34,6 +35,7 @@ mod nanos;
 mod pcap_record;
 mod reading;
 mod rows;
+mod visitor;
 mod walk;
 pub mod worked_examples;
 
@@ -44,4 +46,5 @@ pub use nanos::Nanos;
 pub use pcap_record::{ETHERNET, RAW_IP, Record, Records};
 pub use reading::{records, refusal, refusal_in_chunks};
 pub use rows::{RECORD_HEADER, captured_length};
+pub use visitor::RecordVisitor;
 pub use walk::RecordWalk;

@@ -6,11 +6,13 @@ ghost use Rattle.pcap_records.specs.code.Walk.{HasPassed};
 ghost use Rattle.pcap_records.specs.Reading.{IsReading};
 ghost use Rattle.pcap_records.specs.Refusal.{refusal};
 
+use crate::cursor::RecordCursor;
 use crate::faults::PcapFault;
 use crate::header::{format_or_refusal, header, header_in_chunks};
-use crate::pcap_record::Records;
+use crate::pcap_record::{Record, Records};
+use crate::visitor::RecordVisitor;
 use crate::walk::RecordWalk;
-use input_output::Capture;
+use input_output::{Capture, feed_rest};
 use std::alloc::{AllocError, Global};
 
 /// Why a capture with these bytes is refused, if it is: by its header and its length alone.
@@ -33,8 +35,7 @@ pub fn refusal_in_chunks(capture: &Capture<'_>) -> Option<PcapFault>
 /// Refusals are tested in the order of their numbers, from the header and the length alone. A capture that is not
 /// refused is read whole: bytes at its end that hold no whole record are the cut record, and all before it is kept.
 /// Times are in nanoseconds; a fraction above its usual range is used as it is. [`PcapFault::OutOfMemory`] comes only
-/// where the table of records could not grow, or a record's header, which crosses chunks of the capture, could not be
-/// gathered.
+/// where the table of records could not grow, or a record, which crosses chunks of the capture, could not be gathered.
 pub fn records(alloc: Global, capture: &Capture<'_>) -> Result<Records, PcapFault>
     // Nothing refuses the capture, and this is all that it holds.
     ensures ok { IfOk result (λ found. (refusal capture.now ≡ None) × IsReading capture.now found) }
@@ -52,7 +53,7 @@ pub fn records(alloc: Global, capture: &Capture<'_>) -> Result<Records, PcapFaul
 {
     let header = header_in_chunks(capture);
     match format_or_refusal(header, capture.len()) {
-        Ok(format) => match passed(alloc, RecordWalk::of(format, header), capture) {
+        Ok(format) => match all_of(alloc, RecordCursor::of(format, header), capture) {
             Ok(found) => Ok(found),
             Err(_) => Err(PcapFault::OutOfMemory),
         },
@@ -60,23 +61,46 @@ pub fn records(alloc: Global, capture: &Capture<'_>) -> Result<Records, PcapFaul
     }
 }
 
-/// All that a capture holds, by a walk that has passed no record of it yet.
-fn passed(alloc: Global, mut walk: RecordWalk, capture: &Capture<'_>) -> Result<Records, AllocError>
-    requires walk { HasPassed capture.now [] walk }
+/// The records that a walk hands on, in a list.
+#[derive(Drop)]
+struct RowList {
+    rows: Vec<Record>,
+}
+
+impl RecordVisitor for RowList {
+    ghost use Rattle.pcap_records.specs.code.Walk.{rows_of};
+
+    ghost after = { λ link seen list. list.rows.items ≡ rows_of seen };
+
+    fn take(
+        &mut self,
+        _alloc: Global,
+        _link: u16,
+        row: &Record,
+        _packet: &[u8],
+    ) -> Result<(), AllocError> {
+        self.rows.push(*row)?;
+        Ok(())
+    }
+}
+
+/// All that a capture holds, from the cursor behind its file header on.
+fn all_of(alloc: Global, cursor: RecordCursor, capture: &Capture<'_>) -> Result<Records, AllocError>
+    requires cursor { HasPassed capture.now [] cursor }
+    requires at { cursor.at ≡ 24 }
     requires short { length capture.now < 2 ^ 31 }
     ensures reading { IfOk result (IsReading capture.now) }
     ensures placed { IfOk result (λ found. AreWithin (length capture.now) found.rows.items) }
     ensures timely { IfOk result (λ found. AreTimely found.rows.items) }
     ensures linked { IfOk result (λ found. IsTrue (is_read found.link)) }
 {
-    let mut rows = Vec::new(alloc);
-    while let Some(record) = walk.next(alloc, capture)? {
-        rows.push(record)?;
-    }
-    let cut = walk.cut(capture, rows.len() as u32);
-    Ok(Records {
-        link: walk.link(),
-        rows,
-        cut,
-    })
+    let list = RowList {
+        rows: Vec::new(alloc),
+    };
+    let mut walk = RecordWalk::of(alloc, cursor, list);
+    feed_rest(alloc, capture, &mut walk)?;
+    let link = walk.link();
+    let cut = walk.cut(walk.visitor().rows.len() as u32);
+    let RowList { rows } = walk.into_visitor();
+    Ok(Records { link, rows, cut })
 }

@@ -1,4 +1,4 @@
-ghost use Rattle.std.specs.Prelude.{◌≡◌, ◌≤◌, ◌<◌, ◌+◌, ◌-◌, ◌^◌, length, drop, IfSome, IfNone, IfOk};
+ghost use Rattle.std.specs.Prelude.{◌≡◌, ◌≤◌, ◌<◌, ◌+◌, ◌^◌, length, IfSome, IfNone};
 ghost use Rattle.pcap_records.specs.FileHeader.{number_of};
 ghost use Rattle.pcap_records.specs.Record.{captured_length, record_at};
 ghost use Rattle.pcap_records.specs.code.Walk.{IsNextRecord};
@@ -7,8 +7,6 @@ use crate::format::Format;
 use crate::nanos::Nanos;
 use crate::pcap_record::Record;
 use byteorder::ByteOrder;
-use input_output::Capture;
-use std::alloc::{AllocError, Global};
 
 /// The length of a record's header in bytes.
 pub const RECORD_HEADER: usize = 16;
@@ -25,56 +23,41 @@ pub fn captured_length<T: ByteOrder>(front: &[u8]) -> u32
     T::read_u32(&front[8..])
 }
 
-/// The record whose header begins these bytes, which stand at an offset of a capture of this size, if it is whole.
-fn record_behind<T: ByteOrder>(front: &[u8], at: usize, size: usize, unit: u64) -> Option<Record>
-    requires header { 16 ≤ length front.now }
-    requires inside { at + 16 ≤ size }
-    requires short { size ≤ 2 ^ 31 }
+/// The record whose header begins these bytes, which stand at an offset of a capture, if they have all of it.
+fn record_behind<T: ByteOrder>(bytes: &[u8], at: usize, unit: u64) -> Option<Record>
+    requires header { 16 ≤ length bytes.now }
+    requires short { at + length bytes.now ≤ 2 ^ 31 }
     requires unit { unit ≤ 1000 }
-    ensures found { IfSome result (λ r. (16 + captured_length T.number_of front.now ≤ size - at)
-        × (r ≡ record_at T.number_of unit at front.now)) }
+    ensures found { IfSome result (λ r. (16 + captured_length T.number_of bytes.now ≤ length bytes.now)
+        × (r ≡ record_at T.number_of unit at bytes.now)) }
     ensures time { IfSome result (λ r. r.nanos < 2 ^ 63) }
-    ensures none { IfNone result (size - at < 16 + captured_length T.number_of front.now) }
+    ensures none { IfNone result (length bytes.now < 16 + captured_length T.number_of bytes.now) }
 {
-    let captured = captured_length::<T>(front);
-    if captured as usize > size - at - RECORD_HEADER {
+    let captured = captured_length::<T>(bytes);
+    if captured as usize > bytes.len() - RECORD_HEADER {
         return None;
     }
-    let seconds = u64::from(T::read_u32(front));
-    let fraction = u64::from(T::read_u32(&front[4..]));
+    let seconds = u64::from(T::read_u32(bytes));
+    let fraction = u64::from(T::read_u32(&bytes[4..]));
     Some(Record {
         nanos: Nanos::of(seconds * SECOND + fraction * unit),
-        original: T::read_u32(&front[12..]),
+        original: T::read_u32(&bytes[12..]),
         start: (at + RECORD_HEADER) as u32,
         length: captured,
     })
 }
 
-/// The record that begins at an offset of a capture of this format, if a whole one stands there. `T` is the format's
-/// order of bytes.
-///
-/// Its header is read where it lies; one that crosses chunks of the capture is gathered first, and fails where memory
-/// runs out.
-pub(crate) fn next_record<T: ByteOrder>(
-    alloc: Global,
-    capture: &Capture<'_>,
-    at: usize,
-    format: Format,
-) -> Result<Option<Record>, AllocError>
+/// The record that these bytes of a capture of this format begin with, if a whole one does; they stand at this offset.
+/// `T` is the format's order of bytes.
+#[tactic(auto, using(crate::proofs::Fronts::next_by_header))]
+pub(crate) fn next_record<T: ByteOrder>(bytes: &[u8], at: usize, format: Format) -> Option<Record>
     requires order { T.number_of ≡ number_of format.endian }
-    requires offset { at ≤ length capture.now }
-    requires short { length capture.now ≤ 2 ^ 31 }
+    requires short { at + length bytes.now ≤ 2 ^ 31 }
     requires unit { format.unit ≤ 1000 }
-    ensures { IfOk result (IsNextRecord (number_of format.endian) format.unit at (drop at capture.now)) }
+    ensures { IsNextRecord (number_of format.endian) format.unit at bytes.now result }
 {
-    let size = capture.len();
-    if size - at < RECORD_HEADER {
-        return Ok(None);
+    if bytes.len() < RECORD_HEADER {
+        return None;
     }
-    let front = capture.from(at);
-    if RECORD_HEADER <= front.len() {
-        return Ok(record_behind::<T>(front, at, size, format.unit));
-    }
-    let header = capture.gathered(alloc, at, at + RECORD_HEADER)?;
-    Ok(record_behind::<T>(&header, at, size, format.unit))
+    record_behind::<T>(bytes, at, format.unit)
 }

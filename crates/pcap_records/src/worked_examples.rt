@@ -1,6 +1,6 @@
 //! Worked examples of the definitions, computed by proof. The functions do nothing; each clause is an example.
 
-ghost use Rattle.std.specs.Prelude.{◌≡◌, [], ◌∷◌, ◌++◌, Some, None, take};
+ghost use Rattle.std.specs.Prelude.{◌≡◌, [], ◌∷◌, ◌++◌, Some, None, drop, take};
 ghost use Rattle.pcap_records.specs.examples.Records.{pcapng, big_nanoseconds, little_microseconds, version_2_4};
 ghost use Rattle.pcap_records.specs.examples.Records.{ethernet, cooked, file_header, little_header, big_record};
 ghost use Rattle.pcap_records.specs.examples.Records.{little_record, row};
@@ -66,4 +66,12 @@ pub fn cut_records()
     ensures nothing_left { cut_after [] [] ≡ None }
     ensures first_cut { cut_after [] (take 16 big_record) ≡ Some 1 }
     ensures second_cut { cut_after (record_at (number_of Big) 1 24 big_record ∷ []) (0 ∷ []) ≡ Some 2 }
+{}
+
+/// Bytes behind a record that is cut complete it, and change no record before it.
+pub fn growing()
+    ensures front { AreRecords (number_of Big) 1 24 (big_record ++ take 16 big_record)
+        (row 6000000003 40 ∷ []) (take 16 big_record) }
+    ensures more { AreRecords (number_of Big) 1 24 ((big_record ++ take 16 big_record) ++ drop 16 big_record)
+        (row 6000000003 40 ∷ row 6000000003 57 ∷ []) [] }
 {}

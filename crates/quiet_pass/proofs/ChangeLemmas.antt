@@ -1,145 +1,259 @@
--- A change of the initial windows in force that shows something of one stream (RFC 9113, 6.9.2).
-use Rattle.stream_credit.proofs.Words.{◌≡◌, ℕ, ◌<◌, List, None, sym, ◌∙◌, inl, inr}
-use Rattle.stream_credit.proofs.Words.{false, ap, subst, arith, ne_eqb, Sides, Frame, Change, Stream}
-use Rattle.stream_credit.proofs.Words.{initial_after}
-use Rattle.stream_credit.proofs.Words.{Option, cases_eq}
-use Rattle.std.proofs.Common.{◌%◌, ◌≢◌}
+-- A change of the initial windows in force, and what it shows of all streams (RFC 9113, 6.9.2).
+use Rattle.std.proofs.Common.{◌%◌, ap₂, get_or}
+use Rattle.std.specs.List.{IsDistinct, list_any}
+use Rattle.audit_terms.proofs.FindingLists.{each-append, each-weaker}
+use Rattle.audit_terms.proofs.OrderlyFrames.{drop-at}
 use Rattle.audit_terms.proofs.ShownFindings.{shown-append}
-use Rattle.audit_terms.specs.declared.items.Step.{Step}
-use Rattle.stream_credit.proofs.Words.{◌++◌, ◌^◌, AreQuiet, Finding, append-nil, shown, stream_after, stream_said}
-use Rattle.audit_terms.specs.Frame.{is_server_promise, meets}
-use Rattle.stream_credit.proofs.QuietSteps.{none-shown}
-use Rattle.quiet_pass.specs.declared.opened_rows.Row.{Row}
+use Rattle.stream_credit.proofs.QuietSteps.{change_alone, none-shown}
+use Rattle.stream_credit.proofs.Words.{◌≡◌, ℕ, ◌<◌, ◌^◌, ◌==◌, ◌&&◌, Bool, true, false, List, [], ◌∷◌, ◌++◌, None}
+use Rattle.stream_credit.proofs.Words.{Option, refl, sym, ap, ◌∙◌, subst, arith, append-nil, append_assoc, map}
+use Rattle.stream_credit.proofs.Words.{cases_Bool, cases_eq, eq-eqb, eqb-true, ne_eqb, inl, inr, or_parts}
+use Rattle.stream_credit.proofs.Words.{AllByRecursion, Change, Finding, Sides, Step, Stream, flat_map, flat_map-append}
+use Rattle.stream_credit.proofs.Words.{idle_stream, initial_after, shown, stream_after, stream_said}
+use Rattle.stream_credit.proofs.Words.{◌+◌, drop, length}
+use Rattle.quiet_pass.proofs.StreamLemmas.{step-alone, streams-same, unmoved-entry}
+use Rattle.quiet_pass.specs.code.HeldStreams.{held}
+use Rattle.quiet_pass.specs.code.Rows.{AreRisingFrom, AreRowsSaid, AreStepped, IsRowMoved, IsRowOfParity, IsRowSaid}
+use Rattle.quiet_pass.specs.code.Rows.{entry_in, row_said}
+use Rattle.quiet_pass.specs.code.Streams.{AreStreams, IsChangeSaid}
 use Rattle.quiet_pass.specs.declared.kept_streams.Streams.{Streams}
-use Rattle.quiet_pass.specs.code.Rows.{entry_in, AreRising}
-use Rattle.quiet_pass.specs.code.Streams.{AreStreams, as_step, IsStep, AreAllMoved}
-use Rattle.quiet_pass.specs.code.Streams.{ArePut, IsChangeSaid}
-use Rattle.quiet_pass.proofs.StreamLemmas.{all-moved, entries-moved, meets-own, rising-moved, step-moved}
+use Rattle.quiet_pass.specs.declared.opened_rows.Row.{Row}
 
--- ---- a change that shows something of one stream alone
+-- ---- the streams of rows
 
-module _ (s : ℕ) (initial after : Sides ℕ) (frame : Frame) (change : Option Change) (old mid new : Streams)
-    (next : Stream) (m : AreAllMoved s initial after old mid) (put : ArePut s next mid new)
-    (is : after ≡ initial_after change initial) (zero : frame.stream ≡ 0) (unpromised : is_server_promise frame ≡ false)
-    (streams : ℕ → Stream) (h : AreStreams streams old) where
-  past-frame : (o : ℕ) → 0 < o → meets o frame ≡ false
-  past-frame o above =
-      meets-own initial frame false old new streams h unpromised o
-      ∙ ne_eqb frame.stream o (λ e. absurd (omega (arith, zero, above, e)))
+abbrev pub named_in : List Row → List ℕ
+named_in rows = map (λ (row : Row). row.stream) rows
 
-  moved-odd : (o : ℕ) → o % 2 ≡ 1 → o ≢ s
-      → IsStep o initial (as_step frame change o) (streams o) (entry_in mid.opened.items o)
-  moved-odd o p differ =
-      rw (h.odd o p) (step-moved o initial after frame change _ _
-      (entries-moved s initial after old.opened.items mid.opened.items o differ m.opened) is
-      (past-frame o (omega (arith, p))))
+each-named : (P : ℕ → Type 0) (rows : List Row) → AllByRecursion (λ (row : Row). P row.stream) rows
+    → AllByRecursion P (named_in rows)
+each-named P [] h = tt
+each-named P (row ∷ rows) h = (h.0, each-named P rows h.1)
 
-  moved-even : (o : ℕ) → o % 2 ≡ 0 → 0 < o → o ≢ s
-      → IsStep o initial (as_step frame change o) (streams o) (entry_in mid.promised.items o)
-  moved-even o p above differ =
-      rw (h.even o p above) (step-moved o initial after frame change _ _
-      (entries-moved s initial after old.promised.items mid.promised.items o differ m.promised) is
-      (past-frame o above))
+each-above : (low : ℕ) (rows : List Row) → AreRisingFrom low rows → AllByRecursion (λ s. low < s) (named_in rows)
+each-above low [] h = tt
+each-above low (row ∷ rows) h = (
+  h.0,
+  each-weaker (λ (s : ℕ). row.stream < s) (λ (s : ℕ). low < s) (λ s above. omega (arith, above, h.0)) (named_in rows)
+      (each-above row.stream rows h.1),
+)
 
-  mid-opened : AreRising mid.opened.items
-  mid-opened = rising-moved s initial after 0 old.opened.items mid.opened.items m.opened h.opened
+distinct-in : (low : ℕ) (rows : List Row) → AreRisingFrom low rows → IsDistinct ◌==◌ (named_in rows)
+unfolding IsDistinct
+distinct-in low [] h = tt
+distinct-in low (row ∷ rows) h = (
+  each-weaker (λ (s : ℕ). row.stream < s) (λ (s : ℕ). (row.stream == s) ≡ false)
+      (λ s above. ne_eqb row.stream s (λ e. absurd (omega (arith, above, e)))) (named_in rows)
+      (each-above row.stream rows h.1),
+  distinct-in row.stream rows h.1,
+)
 
-  mid-promised : AreRising mid.promised.items
-  mid-promised = rising-moved s initial after 0 old.promised.items mid.promised.items m.promised h.promised
+distinct-both : (a b : List ℕ) → IsDistinct ◌==◌ a → IsDistinct ◌==◌ b → AllByRecursion (λ s. s % 2 ≡ 1) a
+    → AllByRecursion (λ s. s % 2 ≡ 0) b → IsDistinct ◌==◌ (a ++ b)
+unfolding IsDistinct
+distinct-both [] b p q odd even = q
+distinct-both (x ∷ a) b p q odd even = (
+  each-append (λ (y : ℕ). (x == y) ≡ false) a b p.0
+      (each-weaker (λ (y : ℕ). y % 2 ≡ 0) (λ (y : ℕ). (x == y) ≡ false)
+      (λ y e. ne_eqb x y (λ same. absurd (omega (arith, e, odd.0, same)))) b even),
+  distinct-both a b p.1 q odd.1 even,
+)
 
-  pub others-quiet : (o : ℕ) → 0 < o → o ≢ s
-      → AreQuiet (stream_said o initial (streams o) (as_step frame change o))
-  others-quiet o above differ = elim (cases_eq (o % 2) 1) [
-    | inl p ↦ (moved-odd o p differ).said
-    | inr p ↦ (moved-even o (omega (arith, p)) above differ).said
-  ]
+pub none-both : (test : ℕ → Bool) (a b : List ℕ) → list_any test (a ++ b) ≡ false
+    → (list_any test a ≡ false) × (list_any test b ≡ false)
+none-both test [] b h = (refl, h)
+none-both test (x ∷ a) b h =
+    let parts = or_parts (test x) (list_any test (a ++ b)) h in
+    let rest = none-both test a b parts.1 in (rw (parts.0, rest.0) refl, rest.1)
 
-  module _ (own : next ≡ stream_after s initial (streams s) (as_step frame change s)) where
-    abbrev stepped : ℕ → Stream
-    stepped o = stream_after o initial (streams o) (as_step frame change o)
+missing-idle : (s : ℕ) (rows : List Row) → list_any (λ one. one == s) (named_in rows) ≡ false
+    → entry_in rows s ≡ idle_stream
+missing-idle s [] none = refl
+missing-idle s (row ∷ rows) none =
+    let parts = or_parts (row.stream == s) (list_any (λ one. one == s) (named_in rows)) none in
+    rw parts.0 (missing-idle s rows parts.1)
 
-    own-at : (rows : List Row) → entry_in rows s ≡ next → (o : ℕ) → o ≡ s → stepped o ≡ entry_in rows o
-    own-at rows e o same = subst (λ (n : ℕ). stepped n ≡ entry_in rows n) (sym same) (sym own ∙ sym e)
+pub both-kept : (a b : Bool) → (a && b) ≡ true → (a ≡ true) × (b ≡ true)
+both-kept true b h = (refl, h)
+both-kept false b h = cc
 
-    pub said-after : AreStreams stepped new
-    said-after = elim (cases_eq (s % 2) 1) [
-      | inl odd ↦
-          let one = (put.odd odd).0 mid-opened in
-          let same = (put.odd odd).1 in record {
-            odd = λ o p. elim (cases_eq o s) [
-              | inl e ↦ own-at new.opened.items one.own o e
-              | inr differ ↦ sym (moved-odd o p differ).after ∙ sym (one.others o differ)
-            ];
-            even = λ o p above.
-                sym (moved-even o p above (λ e. absurd (omega (arith, p, odd, e)))).after
-                ∙ ap (λ (rows : List Row). entry_in rows o) (sym same);
-            opened = one.rising;
-            promised = rw same mid-promised;
-          }
-      | inr other ↦
-          let even : s % 2 ≡ 0 = omega (arith, other) in
-          let one = (put.even even).0 mid-promised in
-          let same = (put.even even).1 in record {
-            odd = λ o p.
-                sym (moved-odd o p (λ e. absurd (omega (arith, p, even, e)))).after
-                ∙ ap (λ (rows : List Row). entry_in rows o) (sym same);
-            even = λ o p above. elim (cases_eq o s) [
-              | inl e ↦ own-at new.promised.items one.own o e
-              | inr differ ↦ sym (moved-even o p above differ).after ∙ sym (one.others o differ)
-            ];
-            opened = rw same mid-opened;
-            promised = one.rising;
-          }
-    ]
+-- ---- rows after a step without a frame
 
--- the whole of it
-pub change-said : (s : ℕ) (initial after : Sides ℕ) (frame : Frame) (change : Option Change) (old mid new : Streams)
-    (entry next : Stream) (step : Step) {before found : List Finding} → 0 < s → s < 2 ^ 31
-    → AreAllMoved s initial after old mid → ArePut s next mid new → after ≡ initial_after change initial
-    → frame.stream ≡ 0 → is_server_promise frame ≡ false
-    → step ≡ record { number = frame.number; frame = None; change = change }
-    → ((streams : ℕ → Stream) → AreStreams streams old → streams s ≡ entry)
-    → found ≡ before ++ stream_said s initial entry step → next ≡ stream_after s initial entry step
-    → IsChangeSaid initial frame change old new before found
-change-said s initial after frame change old mid new entry next step {before} some small m put is zero unpromised
-    stepped stood said next-is = record {
-      stream = s;
-      some = some;
-      small = small;
-      said = λ streams h.
-          ap (shown false)
-          (said ∙ ap (λ (step : Step). before ++ stream_said s initial entry step) (step-is streams h)
-          ∙ ap (λ (entry : Stream). before ++ stream_said s initial entry (as_step frame change s))
-          (sym (stood streams h)))
-          ∙ shown-append false before (stream_said s initial (streams s) (as_step frame change s));
-      others = λ streams h.
-          others-quiet s initial after frame change old mid new next m put is zero unpromised streams h;
-      met = λ streams h.
-          said-after s initial after frame change old mid new next m put is zero unpromised streams h
-          (next-is ∙ ap (λ (step : Step). stream_after s initial entry step) (step-is streams h)
-          ∙ ap (λ (entry : Stream). stream_after s initial entry (as_step frame change s)) (sym (stood streams h)));
+module _ (initial : Sides ℕ) (step : Step) (alone : step.frame ≡ None) where
+  idle-said : (s : ℕ) → stream_said s initial idle_stream step ≡ []
+  idle-said s = rw alone refl
+
+  entries-stepped : (old new : List Row) (s : ℕ) → AreStepped initial step old new
+      → stream_after s initial (entry_in old s) step ≡ entry_in new s
+  entries-stepped [] [] s m = rw alone refl
+  entries-stepped (one ∷ old) (two ∷ new) s m =
+      rw m.0.same (elim (cases_Bool (one.stream == s)) [
+        | inl e ↦
+            rw e (subst (λ (n : ℕ). stream_after n initial (held one.standings) step ≡ held two.standings)
+            (eqb-true one.stream s e) (sym m.0.after))
+        | inr e ↦ rw e (entries-stepped old new s m.1)
+      ])
+  entries-stepped _ _ s m = absurd m
+
+  rising-stepped : (low : ℕ) (old new : List Row) → AreStepped initial step old new → AreRisingFrom low old
+      → AreRisingFrom low new
+  rising-stepped low [] [] m h = tt
+  rising-stepped low (one ∷ old) (two ∷ new) m h = rw m.0.same (h.0, rising-stepped one.stream old new m.1 h.1)
+  rising-stepped low _ _ m h = absurd m
+
+  rows-said : (remainder low : ℕ) (rows : List Row) (streams : ℕ → Stream) → AreRisingFrom low rows
+      → AllByRecursion (IsRowOfParity remainder) rows
+      → ((s : ℕ) → low < s → s % 2 ≡ remainder → streams s ≡ entry_in rows s)
+      → flat_map (row_said initial step) rows
+      ≡ flat_map (λ s. stream_said s initial (streams s) step) (named_in rows)
+  rows-said remainder low [] streams h own is = refl
+  rows-said remainder low (row ∷ rows) streams h own is =
+      let here : streams row.stream ≡ held row.standings =
+      is row.stream h.0 own.0.parity ∙ rw (eq-eqb row.stream row.stream refl) refl in
+      ap₂ (λ (a b : List Finding). a ++ b)
+      (ap (λ (entry : Stream). stream_said row.stream initial entry step) (sym here))
+      (rows-said remainder row.stream rows streams h.1 own.1
+      (λ s above p. is s (omega (arith, above, h.0)) p
+      ∙ rw (ne_eqb row.stream s (λ e. absurd (omega (arith, above, e)))) refl))
+
+  -- the whole of it
+  pub change-said : {odd even : Bool} {old new : Streams} {before mid after : List Finding}
+      → AreRowsSaid 1 initial step odd old.opened.items new.opened.items before mid
+      → AreRowsSaid 0 initial step even old.promised.items new.promised.items mid after
+      → IsChangeSaid initial step (odd && even) old new before after
+  change-said {odd} {even} {old} {new} {before} {mid} {after} o e =
+      let one = named_in old.opened.items in
+      let two = named_in old.promised.items in record {
+        some = one ++ two;
+        small = each-append (λ (s : ℕ). s < 2 ^ 31) one two
+            (each-named (λ s. s < 2 ^ 31) old.opened.items
+            (each-weaker (IsRowOfParity 1) (λ (row : Row). row.stream < 2 ^ 31) (λ row h. h.small) old.opened.items
+            o.own))
+            (each-named (λ s. s < 2 ^ 31) old.promised.items
+            (each-weaker (IsRowOfParity 0) (λ (row : Row). row.stream < 2 ^ 31) (λ row h. h.small) old.promised.items
+            e.own));
+        said = λ streams h. all-said old new o e streams h;
+        named = λ streams h. each-append (λ (s : ℕ). 0 < s) one two (each-above 0 old.opened.items h.opened)
+            (each-above 0 old.promised.items h.promised);
+        once = λ streams h. distinct-both one two (distinct-in 0 old.opened.items h.opened)
+            (distinct-in 0 old.promised.items h.promised)
+            (each-named (λ s. s % 2 ≡ 1) old.opened.items
+            (each-weaker (IsRowOfParity 1) (λ (row : Row). row.stream % 2 ≡ 1) (λ row h. h.parity) old.opened.items
+            o.own))
+            (each-named (λ s. s % 2 ≡ 0) old.promised.items
+            (each-weaker (IsRowOfParity 0) (λ (row : Row). row.stream % 2 ≡ 0) (λ row h. h.parity) old.promised.items
+            e.own));
+        others = λ streams h other above none.
+            let parts = none-both (λ n. n == other) one two none in
+            ap (λ (entry : Stream). shown false (stream_said other initial entry step))
+            (unnamed old streams h other above parts.0 parts.1) ∙ ap (shown false) (idle-said other);
+        met = λ k streams h.
+            let both = both-kept odd even k in record {
+              odd = λ s p.
+                  ap (λ (entry : Stream). stream_after s initial entry step) (h.odd s p)
+                  ∙ entries-stepped old.opened.items new.opened.items s (o.stepped both.0);
+              even = λ s p above.
+                  ap (λ (entry : Stream). stream_after s initial entry step) (h.even s p above)
+                  ∙ entries-stepped old.promised.items new.promised.items s (e.stepped both.1);
+              opened = rising-stepped 0 old.opened.items new.opened.items (o.stepped both.0) h.opened;
+              promised = rising-stepped 0 old.promised.items new.promised.items (e.stepped both.1) h.promised;
+            };
+      }
+    where
+      unnamed : (old : Streams) (streams : ℕ → Stream) → AreStreams streams old → (s : ℕ) → 0 < s
+          → list_any (λ n. n == s) (named_in old.opened.items) ≡ false
+          → list_any (λ n. n == s) (named_in old.promised.items) ≡ false → streams s ≡ idle_stream
+      unnamed old streams h s above p q = elim (cases_eq (s % 2) 1) [
+        | inl odd ↦ h.odd s odd ∙ missing-idle s old.opened.items p
+        | inr other ↦ h.even s (omega (arith, other)) above ∙ missing-idle s old.promised.items q
+      ]
+
+      all-said : {odd even : Bool} (old new : Streams) {before mid after : List Finding}
+          → AreRowsSaid 1 initial step odd old.opened.items new.opened.items before mid
+          → AreRowsSaid 0 initial step even old.promised.items new.promised.items mid after
+          → (streams : ℕ → Stream) → AreStreams streams old
+          → shown false after ≡ shown false before
+          ++ shown false (flat_map (λ s. stream_said s initial (streams s) step)
+          (named_in old.opened.items ++ named_in old.promised.items))
+      all-said {odd} {even} old new {before} o e streams h =
+          let rule = λ (s : ℕ). stream_said s initial (streams s) step in
+          let one = flat_map (row_said initial step) old.opened.items in
+          let two = flat_map (row_said initial step) old.promised.items in
+          e.said ∙ ap (λ l. l ++ shown false two) o.said
+          ∙ append_assoc (shown false before) (shown false one) (shown false two)
+          ∙ ap (λ l. shown false before ++ l)
+          (sym (shown-append false one two)
+          ∙ ap (shown false)
+          (ap₂ (λ (a b : List Finding). a ++ b)
+          (rows-said 1 0 old.opened.items streams h.opened o.own (λ s above p. h.odd s p))
+          (rows-said 0 0 old.promised.items streams h.promised e.own (λ s above p. h.even s p above))
+          ∙ sym (flat_map-append rule (named_in old.opened.items) (named_in old.promised.items))))
+
+-- ---- a change that moves no window
+
+pub quiet-said : (initial : Sides ℕ) (number : ℕ) (change : Option Change) (kept : Streams) (found : List Finding)
+    → initial ≡ initial_after change initial
+    → IsChangeSaid initial (change_alone number change) true kept kept found found
+unfolding IsDistinct
+quiet-said initial number change kept found is =
+    let still = λ (s : ℕ) (entry : Stream).
+    step-alone s initial initial number change entry entry (unmoved-entry initial entry) is in record {
+      some = [];
+      small = tt;
+      said = λ streams h. sym (append-nil (shown false found));
+      named = λ streams h. tt;
+      once = λ streams h. tt;
+      others = λ streams h other above none. none-shown _ (still other (streams other)).said;
+      met = λ _ streams h.
+          streams-same streams (λ s. stream_after s initial (streams s) (change_alone number change)) kept
+          (λ s above. (still s (streams s)).after) h;
     }
-  where
-    step-is : (streams : ℕ → Stream) → AreStreams streams old → step ≡ as_step frame change s
-    step-is streams h =
-        let unmet =
-        past-frame s initial after frame change old mid new next m put is zero unpromised streams h s some in
-        rw unmet stepped
 
--- where nothing is shown, it is said of stream 1 as of any other
-pub quiet-said : (initial after : Sides ℕ) (frame : Frame) (change : Option Change) (old new : Streams)
-    (found : List Finding) → AreAllMoved 0 initial after old new → after ≡ initial_after change initial
-    → frame.stream ≡ 0 → is_server_promise frame ≡ false → IsChangeSaid initial frame change old new found found
-quiet-said initial after frame change old new found m is zero unpromised = record {
-  stream = 1;
-  some = omega arith;
-  small = omega arith;
-  said = λ streams h.
-      sym (append-nil (shown false found))
-      ∙ ap (λ l. shown false found ++ l)
-      (sym (none-shown _ ((all-moved initial after frame change old new streams m is zero unpromised h).said 1 (omega
-      arith))));
-  others = λ streams h other some differ.
-      (all-moved initial after frame change old new streams m is zero unpromised h).said other some;
-  met = λ streams h. (all-moved initial after frame change old new streams m is zero unpromised h).after;
-}
+-- ---- one row
+
+pub row-quiet : (initial : Sides ℕ) (step : Step) (old new : Row) {after : Sides ℕ} (found : List Finding)
+    → step.frame ≡ None → after ≡ initial_after step.change initial → IsRowMoved initial after old new
+    → IsRowSaid initial step true old new found found
+row-quiet initial step old new {after} found alone is m =
+    let one = step-alone old.stream initial after step.number step.change (held old.standings) (held new.standings)
+    m.moved is in
+    let same : step ≡ change_alone step.number step.change = rw (← alone) refl in record {
+      said = sym (append-nil (shown false found))
+          ∙ ap (λ l. shown false found ++ l)
+          (sym (ap (λ (step : Step). shown false (stream_said old.stream initial (held old.standings) step)) same
+          ∙ none-shown _ one.said));
+      stepped = λ _. record {
+        same = m.same;
+        after = one.after
+            ∙ ap (λ (step : Step). stream_after old.stream initial (held old.standings) step) (sym same);
+      };
+    }
+
+pub row-said : (initial : Sides ℕ) (step : Step) (row : Row) (before : List Finding) {entry : Stream}
+    {after : List Finding} → entry ≡ held row.standings → after ≡ before ++ stream_said row.stream initial entry step
+    → shown false after ≡ shown false before ++ shown false (row_said initial step row)
+row-said initial step row before is said =
+    ap (shown false)
+    (said ∙ ap (λ (entry : Stream). before ++ stream_said row.stream initial entry step) is)
+    ∙ shown-append false before (row_said initial step row)
+
+-- one row more of those that were gone through
+pub said-more : (initial : Sides ℕ) (step : Step) (old : List Row) (at : ℕ) (row : Row)
+    (found after : List Finding) {whole : List Finding} → row ≡ get_or old at row → at < length old
+    → shown false found ++ shown false (flat_map (row_said initial step) (drop at old)) ≡ whole
+    → shown false after ≡ shown false found ++ shown false (row_said initial step row)
+    → shown false after ++ shown false (flat_map (row_said initial step) (drop (at + 1) old)) ≡ whole
+said-more initial step old at row found after is inside was said =
+    let rest = flat_map (row_said initial step) (drop (at + 1) old) in
+    ap (λ l. l ++ shown false rest) said
+    ∙ append_assoc (shown false found) (shown false (row_said initial step row)) (shown false rest)
+    ∙ ap (λ l. shown false found ++ l) (sym (shown-append false (row_said initial step row) rest))
+    ∙ ap (λ l. shown false found ++ shown false (flat_map (row_said initial step) l))
+    (sym (drop-at old at row is inside)) ∙ was
+
+pub said-all : (initial : Sides ℕ) (step : Step) (old : List Row) (at : ℕ) (found : List Finding) {whole : List Finding}
+    → drop at old ≡ []
+    → shown false found ++ shown false (flat_map (row_said initial step) (drop at old)) ≡ whole
+    → shown false found ≡ whole
+said-all initial step old at found none was =
+    sym (append-nil (shown false found))
+    ∙ ap (λ l. shown false found ++ shown false (flat_map (row_said initial step) l)) (sym none) ∙ was

@@ -21,7 +21,7 @@ use Rattle.quiet_pass.specs.code.SaidFrames.{HaveOwn}
 use Rattle.quiet_pass.specs.declared.found_passes.FoundPass.{FoundPass}
 use Rattle.stream_credit.proofs.QuietSteps.{none-shown}
 use Rattle.stream_credit.proofs.Words.{◌≡◌, ℕ, ◌+◌, ◌<◌, ◌==◌, Bool, true, false, List, [], ◌∷◌, ◌++◌, Some, Option}
-use Rattle.stream_credit.proofs.Words.{refl, sym, ap, ◌∙◌, arith, append-nil, append_assoc, eq-eqb, is_some}
+use Rattle.stream_credit.proofs.Words.{refl, sym, ap, ◌∙◌, arith, append-nil, append_assoc, is_some}
 use Rattle.stream_credit.proofs.Words.{AllByRecursion, Finding, Frame, IfOk-weaker, OnTrue_at, OnTrue_from, shown}
 use Rattle.stream_credit.proofs.Words.{length}
 use Rattle.stream_credit.proofs.Words.{cases_Bool, idle_stream, inl, inr, nat_tests, ne_eqb, or_parts, subst, upto_stop}
@@ -76,7 +76,7 @@ have-own : (frames : List Frame) {frame : Frame} {streams : List ℕ} → HaveAl
 have-own frames {frame} {streams} name = record {
   named = name.named;
   once = name.once;
-  own = λ some. name.all frame.stream some (any-back (meets frame.stream) frames (frame ∷ []) (meets-last frame));
+  own = λ stream some met. name.all stream some (any-back (meets stream) frames (frame ∷ []) (rw met refl));
   live = λ stream some none. elim (cases_Bool (list_any (meets stream) frames)) [
     | inl met ↦
         absurd (differ (list_any (λ (other : ℕ). other == stream) streams)
@@ -85,9 +85,6 @@ have-own frames {frame} {streams} name = record {
   ];
 }
   where
-    meets-last : (frame : Frame) → list_any (meets frame.stream) (frame ∷ []) ≡ true
-    meets-last frame = rw (eq-eqb frame.stream frame.stream refl) refl
-
     differ : (b : Bool) → b ≡ true → b ≡ false → ⊥
     differ true p q = cc
     differ false p q = cc

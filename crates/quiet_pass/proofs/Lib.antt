@@ -1,8 +1,9 @@
 mod HeldLemmas
-mod StreamFrames
 mod RowLists
 mod ConnectionLemmas
 mod StreamLemmas
+mod StreamFrames
+mod AlikeLemmas
 mod ChangeLemmas
 mod PassLemmas
 mod SaidLemmas

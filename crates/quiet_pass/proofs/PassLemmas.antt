@@ -227,7 +227,7 @@ named-left : (test : ℕ → Bool) (streams : List ℕ) → AreNamed streams →
 named-left test [] h = tt
 named-left test (s ∷ streams) h = grind (arith, named-left test streams h.1)
 
-named-first : (s : ℕ) (streams : List ℕ) → AreNamed streams → AreNamed (first_of s streams)
+pub named-first : (s : ℕ) (streams : List ℕ) → AreNamed streams → AreNamed (first_of s streams)
 named-first s streams h = grind (arith, nat_tests, named-left (λ other. not (other == s)) streams h)
 
 pub named-all : (frames : List Frame) → AreNamed (streams_of frames)

@@ -1,7 +1,7 @@
 -- Lists of rows: where one is replaced, where one is added, and where all are moved.
 use Rattle.stream_credit.proofs.Words.{nat_tests, Sides, Frame, Stream, idle_stream, opened_of, IsNextOpened}
 use Rattle.stream_credit.proofs.Words.{None, AllByRecursion, ap, cases_eq, inl, inr, ne_eqb, recursion_from_All}
-use Rattle.stream_credit.proofs.Words.{same_Some, sym, ◌∙◌, ◌≤◌}
+use Rattle.stream_credit.proofs.Words.{same_Some, sym, ◌∙◌, ◌≤◌, Step}
 use Rattle.std.specs.List.{All, Sorted.IsNonDecreasingBy}
 use Rattle.stream_credit.specs.declared.stream_standings.Standings.{Standings}
 use Rattle.std.proofs.Common.{◌≡◌, ◌≢◌, ℕ, zero, suc, ◌-◌, ◌<◌, List, [], ◌∷◌, ◌++◌, length, get_or, slice_get}
@@ -10,7 +10,7 @@ use Rattle.quiet_pass.specs.declared.opened_rows.Row.{Row}
 use Rattle.quiet_pass.proofs.HeldLemmas.{unlow}
 use Rattle.quiet_pass.specs.code.HeldStreams.{held, is_low}
 use Rattle.quiet_pass.specs.code.Rows.{entry_in, AreRisingFrom, AreRising, IsAboveAll, IsRowOf, IsRowAfter}
-use Rattle.quiet_pass.specs.code.Rows.{IsOpened, IsMetOn, IsPut, IsRowMoved, AreMoved}
+use Rattle.quiet_pass.specs.code.Rows.{IsOpened, IsMetOn, IsPut, IsRowMoved, AreMoved, IsRowStepped, AreStepped}
 
 -- ---- the row of a stream
 
@@ -187,12 +187,32 @@ past-last low (one ∷ two ∷ rows) row stream e below h =
 
 -- ---- all rows moved
 
-module _ (but : ℕ) (before after : Sides ℕ) where
-  pub moved-each : (old new : List Row) → length new ≡ length old
-      → ((at : ℕ) (d : Row) → at < length old → IsRowMoved but before after (get_or old at d) (get_or new at d))
-      → AreMoved but before after old new
-  moved-each [] [] e each = tt
-  moved-each [] (_ ∷ _) e each = absurd (omega arith)
-  moved-each (_ ∷ _) [] e each = absurd (omega arith)
-  moved-each (one ∷ old) (two ∷ new) e each =
-      (each zero one (omega arith), moved-each old new (omega arith) (λ at d l. each (suc at) d (omega (arith, l))))
+-- a relation of each row to the one that stands in its place
+module _ (R : Row → Row → Type 0) (Each : List Row → List Row → Type 0) (none : Each [] [])
+    (more : (one two : Row) (old new : List Row) → R one two → Each old new → Each (one ∷ old) (two ∷ new)) where
+  pub each-row : (old new : List Row) → length new ≡ length old
+      → ((at : ℕ) (d : Row) → at < length old → R (get_or old at d) (get_or new at d)) → Each old new
+  each-row [] [] e each = none
+  each-row [] (_ ∷ _) e each = absurd (omega arith)
+  each-row (_ ∷ _) [] e each = absurd (omega arith)
+  each-row (one ∷ old) (two ∷ new) e each =
+      more one two old new (each zero one (omega arith))
+      (each-row old new (omega arith) (λ at d l. each (suc at) d (omega (arith, l))))
+
+pub moved-each : (before after : Sides ℕ) (old new : List Row) → length new ≡ length old
+    → ((at : ℕ) (d : Row) → at < length old → IsRowMoved before after (get_or old at d) (get_or new at d))
+    → AreMoved before after old new
+moved-each before after =
+    each-row (IsRowMoved before after) (AreMoved before after) tt (λ one two old new row rest. (row, rest))
+
+pub stepped-each : (initial : Sides ℕ) (step : Step) (old new : List Row) → length new ≡ length old
+    → ((at : ℕ) (d : Row) → at < length old → IsRowStepped initial step (get_or old at d) (get_or new at d))
+    → AreStepped initial step old new
+stepped-each initial step =
+    each-row (IsRowStepped initial step) (AreStepped initial step) tt (λ one two old new row rest. (row, rest))
+
+pub own-each : (P : Row → Type 0) (rows : List Row) → ((at : ℕ) (d : Row) → at < length rows → P (get_or rows at d))
+    → AllByRecursion P rows
+own-each P [] each = tt
+own-each P (one ∷ rows) each =
+    (each zero one (omega arith), own-each P rows (λ at d l. each (suc at) d (omega (arith, l))))

@@ -1,82 +1,86 @@
 -- What a frame shows, and the machine after it.
-use Rattle.std.proofs.Common.{◌%◌, ◌≢◌}
-use Rattle.std.proofs.lemmas.Bool.{eqb-false}
+use Rattle.std.proofs.Common.{◌≢◌, ap₂}
 use Rattle.std.specs.List.{IsDistinct, list_any}
-use Rattle.audit_terms.proofs.SaidPlaces.{AreAt, at-append, at-connection, at-in_order, at-local, at-stream}
-use Rattle.audit_terms.proofs.SaidPlaces.{at-nil, numbered-at}
-use Rattle.audit_terms.proofs.FindingLists.{each-filter}
-use Rattle.audit_terms.proofs.ShownFindings.{in_order-shown, shown-append}
-use Rattle.audit_terms.specs.Frame.{is_server_promise, meets}
+use Rattle.audit_terms.proofs.SaidPlaces.{AreAt, at-append, at-connection, at-in_order, at-local, at-settings}
+use Rattle.audit_terms.proofs.SaidPlaces.{at-nil, at-stream, numbered-at}
+use Rattle.audit_terms.proofs.FindingLists.{each-append, each-filter}
+use Rattle.audit_terms.proofs.FindingOrder.{in_order-alike, in_order-append_comm}
+use Rattle.audit_terms.proofs.ShownFindings.{shown-append, shown-flat_map}
+use Rattle.audit_terms.specs.Frame.{meets, promised_by, promised_in, promises}
 use Rattle.audit_terms.specs.Finding.{stops}
 use Rattle.audit_terms.specs.Life.{is_opening}
 use Rattle.audit_terms.specs.LocalFault.{local_said}
-use Rattle.audit_terms.specs.Pass.{PassState, item_of, next, opens_stream, said, step_of, streams_said}
-use Rattle.audit_terms.specs.Place.{place_number}
+use Rattle.audit_terms.specs.Pass.{PassState, first_of, item_of, next, opens_stream, step_of, streams_said}
 use Rattle.audit_terms.specs.code.LastFrame.{last_of}
 use Rattle.audit_terms.specs.code.runs.Orderly.{IsInRange}
-use Rattle.audit_terms.specs.code.runs.Streams.{frame_step}
-use Rattle.quiet_pass.proofs.PassLemmas.{flat-quiet, last-if, plain-brought, unmet, unopened}
-use Rattle.quiet_pass.proofs.StreamLemmas.{meets-own, step-past}
+use Rattle.quiet_pass.proofs.AlikeLemmas.{alike-parts, alike-shown, same-order}
+use Rattle.quiet_pass.proofs.ChangeLemmas.{none-both}
+use Rattle.quiet_pass.proofs.PassLemmas.{last-if, named-first, plain-brought, unopened}
+use Rattle.quiet_pass.proofs.StreamLemmas.{step-past, streams-put}
 use Rattle.quiet_pass.specs.code.Connection.{as_item, connection_of}
 use Rattle.quiet_pass.specs.code.QuietPass.{AreNamed, BringsNothing, StandsFor}
-use Rattle.quiet_pass.specs.code.Rows.{IsPut, entry_in}
-use Rattle.quiet_pass.specs.code.SaidFrames.{HaveOwn, IsConnectionKept, IsConnectionSaid, IsKeptAfter, IsSaidStep}
-use Rattle.quiet_pass.specs.code.SaidFrames.{MovesOneStream}
-use Rattle.quiet_pass.specs.code.Streams.{ArePut, AreStreams, as_step}
+use Rattle.quiet_pass.specs.code.SaidFrames.{HaveOwn, IsConnectionKept, IsConnectionSaid, IsEntrySaid, IsKeptAfter}
+use Rattle.quiet_pass.specs.code.SaidFrames.{IsSaidStep}
+use Rattle.quiet_pass.specs.code.Streams.{AreStreams, as_step}
 use Rattle.audit_terms.specs.declared.items.Item.{Item}
 use Rattle.audit_terms.specs.declared.last_frames.LastFrame.{LastFrame}
 use Rattle.audit_terms.specs.declared.sides.Side.{Side}
-use Rattle.quiet_pass.specs.declared.kept_streams.Streams.{Streams}
-use Rattle.quiet_pass.specs.declared.opened_rows.Row.{Row}
 use Rattle.quiet_pass.specs.declared.passes.QuietPass.{QuietPass}
 use Rattle.stream_credit.proofs.QuietSteps.{none-shown}
-use Rattle.stream_credit.proofs.Words.{◌≡◌, ℕ, ◌<◌, ◌==◌, Bool, true, false, List, [], ◌∷◌, ◌++◌, None, refl, sym}
-use Rattle.stream_credit.proofs.Words.{ap, ◌∙◌, subst, arith, append-nil, eq-eqb, ne_eqb, cases_eq, inl, inr}
-use Rattle.stream_credit.proofs.Words.{AllByRecursion, AreQuiet, Change, Client, ConnectionState, Finding, Frame}
-use Rattle.stream_credit.proofs.Words.{Option}
-use Rattle.stream_credit.proofs.Words.{Server, Stream, change_of, connection_after, connection_said, flat_map}
-use Rattle.stream_credit.proofs.Words.{in_order, initial_after, settings_said, shown}
-use Rattle.stream_credit.proofs.Words.{side_of, stream_after, stream_said}
+use Rattle.stream_credit.proofs.Words.{◌≡◌, ℕ, ◌<◌, ◌^◌, ◌==◌, Bool, true, false, List, [], ◌∷◌, ◌++◌, None, refl, sym}
+use Rattle.stream_credit.proofs.Words.{ap, ◌∙◌, subst, arith, append-nil, append_assoc, eq-eqb, ne_eqb, cases_Bool}
+use Rattle.stream_credit.proofs.Words.{cases_eq, inl, inr, nat_tests, if◌then◌else◌, ◌||◌, and-false}
+use Rattle.stream_credit.proofs.Words.{AllByRecursion, Change, Client, ConnectionState, Finding, Frame, Option, Server}
+use Rattle.stream_credit.proofs.Words.{Sides, Step, Stream, change_of, connection_after, connection_said, flat_map}
+use Rattle.stream_credit.proofs.Words.{flat_map-append, frame_step, idle_stream, in_order, initial_after}
+use Rattle.stream_credit.proofs.Words.{settings_said, shown, side_of, stream_after, stream_said}
 
--- ---- lists of findings
+-- the audit stops, so it does not go on
+pub never : {A : Type 0} (stops : Bool) → stops ≡ true → stops ≡ false → A
+never true p q = cc
+never false p q = cc
 
--- what is shown in order depends on what is shown of its parts
-alike : (front one other : List Finding) → shown false one ≡ shown false other
-    → shown false (in_order (front ++ one)) ≡ shown false (in_order (front ++ other))
-alike front one other e =
-    sym (in_order-shown false (front ++ one))
-    ∙ ap in_order (shown-append false front one ∙ ap (λ l. shown false front ++ l) e
-    ∙ sym (shown-append false front other))
-    ∙ in_order-shown false (front ++ other)
+-- ---- what a frame shows of all streams
 
--- ---- of all streams one alone shows something
+-- what a frame shows of one
+abbrev pub said_of : PassState → Frame → ℕ → List Finding
+said_of state frame s = stream_said s state.in_force.initial (state.streams s) (step_of state.in_force frame s)
 
-module _ (rule : ℕ → List Finding) (s : ℕ) (others : (o : ℕ) → 0 < o → o ≢ s → shown false (rule o) ≡ []) where
-  pub none-of : (streams : List ℕ) → AreNamed streams → AllByRecursion (λ other. (s == other) ≡ false) streams
-      → shown false (flat_map rule streams) ≡ []
-  none-of [] named none = refl
-  none-of (o ∷ streams) named none =
-      shown-append false (rule o) (flat_map rule streams)
-      ∙ ap (λ l. l ++ shown false (flat_map rule streams)) (others o named.0 (λ e. eqb-false s o none.0 (sym e)))
-      ∙ none-of streams named.1 none.1
+-- of others than these streams a frame shows nothing
+pub record AreAllSaid (state : PassState) (frame : Frame) (some : List ℕ) : Type 0 where
+  pub named : AreNamed some
+  pub once : IsDistinct ◌==◌ some
+  pub small : AllByRecursion (λ stream. stream < 2 ^ 31) some
+  pub others : (other : ℕ) → 0 < other → list_any (λ one. one == other) some ≡ false
+      → shown false (said_of state frame other) ≡ []
 
-  pub one-of : (streams : List ℕ) → AreNamed streams → IsDistinct ◌==◌ streams
-      → list_any (λ other. other == s) streams ≡ true → shown false (flat_map rule streams) ≡ shown false (rule s)
-  unfolding IsDistinct
-  one-of [] named once there = cc
-  one-of (o ∷ streams) named once there =
-      elim (cases_eq o s) [
-        | inl own ↦
-            shown-append false (rule o) (flat_map rule streams)
-            ∙ ap (λ l. shown false (rule o) ++ l)
-            (none-of streams named.1
-            (subst (λ (n : ℕ). AllByRecursion (λ (other : ℕ). (n == other) ≡ false) streams) own once.0))
-            ∙ append-nil (shown false (rule o)) ∙ ap (λ n. shown false (rule n)) own
-        | inr differ ↦
-            shown-append false (rule o) (flat_map rule streams)
-            ∙ ap (λ l. l ++ shown false (flat_map rule streams)) (others o named.0 differ)
-            ∙ one-of streams named.1 once.1 (rw (ne_eqb o s differ) at there)
-      ]
+module _ (state : PassState) (frame : Frame) where
+  idle-unsaid : (s : ℕ) → state.streams s ≡ idle_stream → meets s frame ≡ false
+      → shown false (said_of state frame s) ≡ []
+  idle-unsaid s idle unmet = rw (idle, unmet) refl
+
+  unnamed-unmet : (streams : List ℕ) → HaveOwn state frame streams → (s : ℕ) → 0 < s
+      → list_any (λ other. other == s) streams ≡ false → meets s frame ≡ false
+  unnamed-unmet streams name s some none = elim (cases_Bool (meets s frame)) [
+    | inl met ↦ never (list_any (λ other. other == s) streams) (name.own s some met) none
+    | inr unmet ↦ unmet
+  ]
+
+  of-some : (streams some : List ℕ) → HaveOwn state frame streams → AreAllSaid state frame some
+      → in_order (shown false (streams_said streams state frame))
+      ≡ in_order (shown false (streams_said some state frame))
+  of-some streams some name all =
+      ap in_order (shown-flat_map false (said_of state frame) streams)
+      ∙ same-order (λ s. shown false (said_of state frame s)) streams some name.named all.named name.once all.once
+      (λ s above none. idle-unsaid s (name.live s above none) (unnamed-unmet streams name s above none)) all.others
+      ∙ ap in_order (sym (shown-flat_map false (said_of state frame) some))
+
+  at-some : (some : List ℕ) → AllByRecursion (λ stream. stream < 2 ^ 31) some
+      → AreAt frame.number (streams_said some state frame)
+  at-some [] h = at-nil frame.number
+  at-some (s ∷ some) h =
+      at-append frame.number (said_of state frame s) (streams_said some state frame)
+      (at-stream s state.in_force.initial (state.streams s) (step_of state.in_force frame s) h.0) (at-some some h.1)
 
 -- ---- whether a frame opens its stream
 
@@ -85,191 +89,25 @@ opens-own : (frame : Frame) (state : PassState)
 opens-own frame state =
     let met : meets frame.stream frame ≡ true = rw (eq-eqb frame.stream frame.stream refl) refl in rw met refl
 
-pub unopened-zero : (frame : Frame) (state : PassState) → frame.stream ≡ 0 → opens_stream state frame ≡ false
-unopened-zero frame state zero = opens-own frame state ∙ unopened frame (state.streams frame.stream) zero
+pub opens-as : (frame : Frame) (state : PassState) (opens : Bool) (own : Stream)
+    → (0 < frame.stream → state.streams frame.stream ≡ own) → opens ≡ is_opening frame.stream own.life frame
+    → opens ≡ opens_stream state frame
+opens-as frame state opens own is opening = elim (cases_eq frame.stream 0) [
+  | inl zero ↦
+      opening ∙ unopened frame own zero ∙ sym (unopened frame (state.streams frame.stream) zero)
+      ∙ sym (opens-own frame state)
+  | inr some ↦
+      opening
+      ∙ ap (λ (one : Stream). is_opening frame.stream one.life frame) (sym (is (omega (arith, some))))
+      ∙ sym (opens-own frame state)
+]
 
--- ---- a frame that brings nothing and promises nothing
-
-module _ (frame : Frame) (old : QuietPass) (state : PassState) (stands : StandsFor old state)
-    (plain : BringsNothing frame) (unpromised : is_server_promise frame ≡ false) where
-  no-change : change_of state.in_force frame ≡ None
-  no-change = (plain-brought frame state.in_force old.pending plain stands.pending).brings
-
-  no-settings : settings_said state.in_force frame ≡ []
-  no-settings = rw plain.ack refl
-
-  abbrev rule : ℕ → List Finding
-  rule s = stream_said s state.in_force.initial (state.streams s) (step_of state.in_force frame s)
-
-  -- the machine after the frame
-  next-stands : (new : QuietPass) {connection : ConnectionState} → IsConnectionKept frame connection old new
-      → connection ≡ connection_after state.connection (item_of state frame)
-      → AreStreams (λ s. stream_after s state.in_force.initial (state.streams s) (as_step frame None s)) new.streams
-      → StandsFor new (next state frame)
-  next-stands new keeps connection streams = record {
-    client = keeps.client ∙ last-if _ frame state.previous.client old.last.client stands.client;
-    server = keeps.server ∙ last-if _ frame state.previous.server old.last.server stands.server;
-    pending = rw keeps.pending (plain-brought frame state.in_force old.pending plain stands.pending).kept;
-    initial = keeps.initial ∙ stands.initial
-        ∙ ap (λ (change : Option Change). initial_after change state.in_force.initial) (sym no-change);
-    connection = keeps.kept ∙ connection;
-    streams = subst (λ (change : Option Change). AreStreams (λ s.
-        stream_after s state.in_force.initial (state.streams s) (as_step frame change s)) new.streams) (sym no-change)
-        streams;
-  }
-
-  -- what is shown of the frame, where its stream shows this
-  shown-all : (one : List Finding) (streams : List ℕ)
-      → shown false (streams_said streams state frame) ≡ shown false one
-      → shown false (said streams state frame)
-      ≡ shown false (in_order ((local_said (side_of frame.side state.previous) frame
-      ++ connection_said state.connection (item_of state frame)) ++ one))
-  shown-all one streams e =
-      rw (no-settings, append-nil (local_said (side_of frame.side state.previous) frame))
-      (alike (local_said (side_of frame.side state.previous) frame
-      ++ connection_said state.connection (item_of state frame)) (streams_said streams state frame) one e)
-
-  item-is : (opens : Bool) → opens ≡ opens_stream state frame → as_item frame opens None ≡ item_of state frame
-  item-is opens e = rw (e, no-change) refl
-
-  numbered : IsInRange frame → (one : List Finding) → AreAt frame.number one
-      → AllByRecursion (λ (finding : Finding). place_number finding.place ≡ frame.number)
-      (shown false (in_order ((local_said (side_of frame.side state.previous) frame
-      ++ connection_said state.connection (item_of state frame)) ++ one)))
-  numbered range one at =
-      each-filter _ _ _
-      (numbered-at frame.number _
-      (at-in_order frame.number _
-      (at-append frame.number _ one
-      (at-append frame.number _ _ (at-local frame range.stream (side_of frame.side state.previous))
-      (at-connection state.connection (item_of state frame) range)) at)))
-
-  -- ---- on stream 0
-
-  module _ (zero : frame.stream ≡ 0) where
-    none-met : (s : ℕ) → 0 < s → AreQuiet (rule s)
-    none-met s some =
-        rw no-change
-        ((unmet state.in_force.initial state.streams old.streams zero unpromised stands.streams).met.said s some)
-
-    streams-past : AreStreams (λ s. stream_after s state.in_force.initial (state.streams s) (as_step frame None s))
-        old.streams
-    streams-past =
-        (unmet state.in_force.initial state.streams old.streams zero unpromised stands.streams).met.after
-
-    shown-on-connection : (streams : List ℕ) → AreNamed streams
-        → shown false (streams_said streams state frame) ≡ shown false []
-    shown-on-connection streams named =
-        none-shown (streams_said streams state frame) (flat-quiet rule streams named none-met)
-
-  -- ---- on a stream
-
-  module _ (some : 0 < frame.stream) where
-    own-step : as_step frame None frame.stream ≡ frame_step frame
-    own-step =
-        let met : meets frame.stream frame ≡ true = rw (eq-eqb frame.stream frame.stream refl) refl in rw met refl
-
-    past : (s : ℕ) → s ≢ frame.stream → meets s frame ≡ false
-    past s differ =
-        meets-own state.in_force.initial frame false old.streams old.streams state.streams stands.streams unpromised s
-        ∙ ne_eqb frame.stream s (λ e. differ (sym e))
-
-    shown-on-stream : (streams : List ℕ) → HaveOwn state frame streams
-        → shown false (streams_said streams state frame)
-        ≡ shown false (stream_said frame.stream state.in_force.initial (state.streams frame.stream) (frame_step frame))
-    shown-on-stream streams name =
-        one-of rule frame.stream
-        (λ o above differ. rw no-change
-        (none-shown _ (step-past o state.in_force.initial frame (state.streams o) (past o differ)).said))
-        streams name.named name.once (name.own some)
-        ∙ ap (λ step. shown false
-        (stream_said frame.stream state.in_force.initial (state.streams frame.stream) step))
-        (ap (λ (change : Option Change). as_step frame change frame.stream) no-change ∙ own-step)
-
-    abbrev after : ℕ → Stream
-    after s = stream_after s state.in_force.initial (state.streams s) (as_step frame None s)
-
-    past-after : (s : ℕ) → s ≢ frame.stream → state.streams s ≡ after s
-    past-after s differ = (step-past s state.in_force.initial frame (state.streams s) (past s differ)).after
-
-    module _ (entry : Stream) (is : entry
-        ≡ stream_after frame.stream state.in_force.initial (state.streams frame.stream) (frame_step frame)) where
-      own-after : after frame.stream ≡ entry
-      own-after =
-          ap (λ step. stream_after frame.stream state.in_force.initial (state.streams frame.stream) step) own-step
-          ∙ sym is
-
-      put-after : (before rows : List Row) → IsPut frame.stream entry before rows → (s : ℕ)
-          → state.streams s ≡ entry_in before s → after s ≡ entry_in rows s
-      put-after before rows put s e = elim (cases_eq s frame.stream) [
-        | inl own ↦ subst (λ (n : ℕ). after n ≡ entry_in rows n) (sym own) (own-after ∙ sym put.own)
-        | inr differ ↦ sym (past-after s differ) ∙ e ∙ sym (put.others s differ)
-      ]
-
-      same-after : (before rows : List Row) → rows ≡ before → (s : ℕ) → s ≢ frame.stream
-          → state.streams s ≡ entry_in before s → after s ≡ entry_in rows s
-      same-after before rows same s differ e =
-          sym (past-after s differ) ∙ e ∙ ap (λ (rows : List Row). entry_in rows s) (sym same)
-
-      put-streams : (kept : Streams) → ArePut frame.stream entry old.streams kept → AreStreams after kept
-      put-streams kept put = elim (cases_eq (frame.stream % 2) 1) [
-        | inl odd ↦
-            let one = (put.odd odd).0 stands.streams.opened in
-            let same = (put.odd odd).1 in record {
-              odd = λ s q. put-after old.streams.opened.items kept.opened.items one s (stands.streams.odd s q);
-              even = λ s q above. same-after old.streams.promised.items kept.promised.items same s
-                  (λ e. absurd (omega (arith, q, odd, e))) (stands.streams.even s q above);
-              opened = one.rising;
-              promised = rw same stands.streams.promised;
-            }
-        | inr other ↦
-            let even : frame.stream % 2 ≡ 0 = omega (arith, other) in
-            let one = (put.even even).0 stands.streams.promised in
-            let same = (put.even even).1 in record {
-              odd = λ s q. same-after old.streams.opened.items kept.opened.items same s
-                  (λ e. absurd (omega (arith, q, even, e))) (stands.streams.odd s q);
-              even = λ s q above. put-after old.streams.promised.items kept.promised.items one s
-                  (stands.streams.even s q above);
-              opened = rw same stands.streams.opened;
-              promised = one.rising;
-            }
-      ]
-
--- ---- what the code says
-
--- the audit stops, so it does not go on
-pub never : {A : Type 0} (stops : Bool) → stops ≡ true → stops ≡ false → A
-never true p q = cc
-never false p q = cc
+-- ---- what a frame shows by itself and of the connection
 
 own-last : (machine : QuietPass) (state : PassState) → StandsFor machine state → (d : Side)
     → side_of d machine.last ≡ last_of (side_of d state.previous)
 own-last machine state stands Client = stands.client
 own-last machine state stands Server = stands.server
-
-pub spoken-front : (frame : Frame) (old : QuietPass) (state : PassState) (opens : Bool) (change : Option Change)
-    {start before : List Finding} {connection : ConnectionState}
-    → IsConnectionSaid old frame opens change start before connection → start ≡ []
-    → StandsFor old state → as_item frame opens change ≡ item_of state frame
-    → before ≡ local_said (side_of frame.side state.previous) frame
-    ++ connection_said state.connection (item_of state frame)
-spoken-front frame old state opens change {start} spoken empty stands item =
-    let local = local_said (side_of frame.side state.previous) frame in
-    spoken.said (side_of frame.side state.previous) (own-last old state stands frame.side)
-    ∙ ap (λ (now : ConnectionState). (start ++ local) ++ connection_said now (as_item frame opens change))
-    stands.connection
-    ∙ ap (λ l. (l ++ local) ++ connection_said state.connection (as_item frame opens change)) empty
-    ∙ ap (λ (item : Item). local ++ connection_said state.connection item) item
-
-pub spoken-next : (frame : Frame) (old : QuietPass) (state : PassState) (opens : Bool) (change : Option Change)
-    {start before : List Finding} {connection : ConnectionState}
-    → IsConnectionSaid old frame opens change start before connection
-    → StandsFor old state → as_item frame opens change ≡ item_of state frame
-    → connection ≡ connection_after state.connection (item_of state frame)
-spoken-next frame old state opens change spoken stands item =
-    spoken.next
-    ∙ ap (λ (now : ConnectionState). connection_after now (as_item frame opens change)) stands.connection
-    ∙ ap (connection_after state.connection) item
 
 -- what a frame shows by itself and of the connection, as the machine keeps them
 pub spoken-alone : {machine : QuietPass} {frame : Frame} {opens : Bool} {change : Option Change}
@@ -288,76 +126,297 @@ spoken-alone {machine} {frame} {opens} {change} {before} {mid} last-is local now
   next = next-is ∙ ap (λ (now : ConnectionState). connection_after now (as_item frame opens change)) now-is;
 }
 
--- of a frame on stream 0
-pub said-on-connection : {frame : Frame} {old new : QuietPass} {connection : ConnectionState}
-    {start before found : List Finding} → MovesOneStream frame → frame.stream ≡ 0
-    → IsConnectionSaid old frame false None start before connection → start ≡ []
-    → found ≡ shown false (in_order before)
-    → (list_any stops found ≡ false → IsConnectionKept frame connection old new × (new.streams ≡ old.streams))
-    → (state : PassState) → StandsFor old state → IsSaidStep state frame found new
-said-on-connection {frame} {old} {new} {connection} {start} {before} {found} moves zero spoken empty is kept state
-    stands =
-    let opens : false ≡ opens_stream state frame = sym (unopened-zero frame state zero) in
-    let item = item-is frame old state stands moves.plain moves.unpromised false opens in
-    let front : before ≡ (local_said (side_of frame.side state.previous) frame
-    ++ connection_said state.connection (item_of state frame)) ++ [] =
-    spoken-front frame old state false None spoken empty stands item ∙ sym (append-nil _) in
-    let all : found ≡ shown false (in_order ((local_said (side_of frame.side state.previous) frame
-    ++ connection_said state.connection (item_of state frame)) ++ [])) =
-    rw is (ap (λ l. shown false (in_order l)) front) in record {
-      shown = λ streams name. shown-all frame old state stands moves.plain moves.unpromised [] streams
-          (shown-on-connection frame old state stands moves.plain moves.unpromised zero streams name.named) ∙ sym all;
-      goes_on = λ on.
-          let keeps = kept on in
-          next-stands frame old state stands moves.plain moves.unpromised new keeps.0
-          (spoken-next frame old state false None spoken stands item)
-          (rw keeps.1 (streams-past frame old state stands moves.plain moves.unpromised zero));
-      numbered = rw all
-          (numbered frame old state stands moves.plain moves.unpromised moves.range [] (at-nil frame.number));
-    }
+-- ---- the whole of a step
 
--- of a frame on a stream
-pub said-on-stream : {frame : Frame} {old new : QuietPass} {opens : Bool} {connection : ConnectionState}
-    {start before found : List Finding} {entry : Stream} (own : Stream) → MovesOneStream frame
-    → 0 < frame.stream
-    → ((streams : ℕ → Stream) → AreStreams streams old.streams → streams frame.stream ≡ own)
+module _ {frame : Frame} {old : QuietPass} {opens : Bool} {change : Option Change} {connection : ConnectionState}
+    {start before : List Finding} {state : PassState} (stands : StandsFor old state)
+    (spoken : IsConnectionSaid old frame opens change start before connection)
+    (item : as_item frame opens change ≡ item_of state frame) where
+  abbrev local : List Finding
+  local = local_said (side_of frame.side state.previous) frame
+
+  abbrev of-connection : List Finding
+  of-connection = connection_said state.connection (item_of state frame)
+
+  spoken-front : before ≡ (start ++ local) ++ of-connection
+  spoken-front =
+      spoken.said (side_of frame.side state.previous) (own-last old state stands frame.side)
+      ∙ ap (λ (now : ConnectionState). (start ++ local) ++ connection_said now (as_item frame opens change))
+      stands.connection
+      ∙ ap (λ (item : Item). (start ++ local) ++ connection_said state.connection item) item
+
+  pub spoken-next : connection ≡ connection_after state.connection (item_of state frame)
+  spoken-next =
+      spoken.next
+      ∙ ap (λ (now : ConnectionState). connection_after now (as_item frame opens change)) stands.connection
+      ∙ ap (connection_after state.connection) item
+
+  -- the code has the finding of an acknowledgement first, and streams in an order of its own
+  pub said-step : {new : QuietPass} (after : List Finding) {found : List Finding} (some : List ℕ)
+      → AreAllSaid state frame some → IsInRange frame → start ≡ settings_said state.in_force frame
+      → shown false after ≡ shown false before ++ shown false (streams_said some state frame)
+      → found ≡ shown false (in_order after)
+      → (list_any stops found ≡ false → StandsFor new (next state frame)) → IsSaidStep state frame found new
+  said-step {new} after {found} some all range settings is ordered goes_on =
+      let of-settings = settings_said state.in_force frame in
+      let of-streams = streams_said some state frame in
+      let front : before ≡ (of-settings ++ local) ++ of-connection =
+      spoken-front ∙ ap (λ l. (l ++ local) ++ of-connection) settings in
+      let whole : found ≡ shown false (in_order (((of-settings ++ local) ++ of-connection) ++ of-streams)) =
+      ordered
+      ∙ alike-shown after (((of-settings ++ local) ++ of-connection) ++ of-streams)
+      (is ∙ sym (shown-append false before of-streams) ∙ ap (λ l. shown false (l ++ of-streams)) front) in record {
+        shown = λ streams name.
+            alike-parts ((local ++ of-settings) ++ of-connection) ((of-settings ++ local) ++ of-connection)
+            (streams_said streams state frame) of-streams
+            (in_order-alike (local ++ of-settings) (of-settings ++ local) of-connection of-connection
+            (in_order-append_comm local of-settings) refl)
+            (of-some state frame streams some name all) ∙ sym whole;
+        goes_on = goes_on;
+        numbered = rw whole
+            (each-filter _ _ _
+            (numbered-at frame.number _
+            (at-in_order frame.number _
+            (at-append frame.number _ of-streams
+            (at-append frame.number _ of-connection
+            (at-append frame.number of-settings local (at-settings frame range.stream state.in_force)
+            (at-local frame range.stream (side_of frame.side state.previous)))
+            (at-connection state.connection (item_of state frame) range)) (at-some state frame some all.small)))));
+      }
+
+-- ---- the streams that meet a frame
+
+module _ (s : ℕ) where
+  flat-first : (f g : ℕ → List Finding) → (0 < s → f s ≡ g s) → flat_map f (first_of s []) ≡ flat_map g (first_of s [])
+  flat-first f g same = elim (cases_eq s 0) [
+    | inl zero ↦ rw (eq-eqb s 0 zero) refl
+    | inr some ↦ rw (ne_eqb s 0 some) (ap (λ l. l ++ []) (same (omega (arith, some))))
+  ]
+
+  small-first : s < 2 ^ 31 → AllByRecursion (λ stream. stream < 2 ^ 31) (first_of s [])
+  small-first small = elim (cases_eq s 0) [
+    | inl zero ↦ rw (eq-eqb s 0 zero) tt
+    | inr some ↦ rw (ne_eqb s 0 some) (small, tt)
+  ]
+
+  among-first : (o : ℕ) → 0 < o → list_any (λ one. one == o) (first_of s []) ≡ false → o ≢ s
+  among-first o above none same =
+      let some : (s == 0) ≡ false = ne_eqb s 0 (λ zero. absurd (omega (arith, above, same, zero))) in
+      let met : list_any (λ one. one == o) (first_of s []) ≡ true = rw (some, eq-eqb s o (sym same)) refl in
+      never (list_any (λ one. one == o) (first_of s [])) met none
+
+once-first : (s p : ℕ) → (0 < p → s ≢ p) → IsDistinct ◌==◌ (first_of s [] ++ first_of p [])
+unfolding IsDistinct
+once-first s p apart = elim (cases_eq s 0) [
+  | inl zero ↦ rw (eq-eqb s 0 zero) (elim (cases_eq p 0) [
+    | inl none ↦ rw (eq-eqb p 0 none) tt
+    | inr other ↦ rw (ne_eqb p 0 other) (tt, tt)
+  ])
+  | inr some ↦ rw (ne_eqb s 0 some) (elim (cases_eq p 0) [
+    | inl none ↦ rw (eq-eqb p 0 none) (tt, tt)
+    | inr other ↦ rw (ne_eqb p 0 other) ((ne_eqb s p (apart (omega (arith, other))), tt), (tt, tt))
+  ])
+]
+
+module _ (frame : Frame) where
+  abbrev met-by : List ℕ
+  met-by = first_of frame.stream [] ++ first_of (promised_by frame) []
+
+  own-met : meets frame.stream frame ≡ true
+  own-met = rw (eq-eqb frame.stream frame.stream refl) refl
+
+  promised-promises : 0 < promised_by frame → promises (promised_by frame) frame ≡ true
+  promised-promises some = elim (cases_Bool (promises (promised_in frame.body) frame)) [
+    | inl met ↦ rw met met
+    | inr unmet ↦ absurd (let none : promised_by frame ≡ 0 = rw unmet refl in omega (arith, some, none))
+  ]
+
+  promised-met : 0 < promised_by frame → meets (promised_by frame) frame ≡ true
+  promised-met some = rw (promised-promises some) (or-true (frame.stream == promised_by frame))
+    where
+      or-true : (b : Bool) → (b || true) ≡ true
+      or-true true = refl
+      or-true false = refl
+
+  promised-other : 0 < promised_by frame → frame.stream ≢ promised_by frame
+  promised-other some same =
+      let met = promised-promises some in
+      never (promises (promised_by frame) frame) met
+      (rw (eq-eqb frame.stream (promised_by frame) same) (and-false _))
+
+  promises-own : (o : ℕ) → promises o frame ≡ true → promised_by frame ≡ o
+  promises-own o met =
+      let is : promised_in frame.body ≡ o = grind (arith, nat_tests, met) in
+      let own : promises (promised_in frame.body) frame ≡ true =
+      subst (λ (n : ℕ). promises n frame ≡ true) (sym is) met in
+      rw own is
+
+  unmet-other : (o : ℕ) → o ≢ frame.stream → o ≢ promised_by frame → meets o frame ≡ false
+  unmet-other o differ apart = elim (cases_Bool (promises o frame)) [
+    | inl met ↦ absurd (apart (sym (promises-own o met)))
+    | inr unmet ↦ rw (unmet, ne_eqb frame.stream o (λ e. differ (sym e))) refl
+  ]
+
+  promised-small : IsInRange frame → promised_by frame < 2 ^ 31
+  promised-small range = elim (cases_Bool (promises (promised_in frame.body) frame)) [
+    | inl met ↦ rw met range.promised
+    | inr unmet ↦ rw unmet (omega arith)
+  ]
+
+-- what the code adds of stream 0, and of another
+pub entry-skipped : {s : ℕ} {initial : Sides ℕ} {frame : Frame} (entry : Stream) (found : List Finding) → s ≡ 0
+    → IsEntrySaid s initial frame entry entry found found
+entry-skipped {s} entry found zero = record {
+  said = rw (eq-eqb s 0 zero) (sym (append-nil found));
+  next = λ some. absurd (omega (arith, some, zero));
+}
+
+pub entry-added : {s : ℕ} {initial : Sides ℕ} {frame : Frame} {old new : Stream} {before after : List Finding} → s ≢ 0
+    → after ≡ before ++ stream_said s initial old (frame_step frame)
+    → new ≡ stream_after s initial old (frame_step frame) → IsEntrySaid s initial frame old new before after
+entry-added {s} {initial} {frame} {old} {new} {before} some said next = record {
+  said = rw (ne_eqb s 0 some)
+      (said ∙ ap (λ l. before ++ l) (sym (append-nil (stream_said s initial old (frame_step frame)))));
+  next = λ _. next;
+}
+
+-- ---- a frame that brings nothing
+
+module _ (frame : Frame) (old : QuietPass) (state : PassState) (stands : StandsFor old state)
+    (plain : BringsNothing frame) where
+  no-change : change_of state.in_force frame ≡ None
+  no-change = (plain-brought frame state.in_force old.pending plain stands.pending).brings
+
+  no-settings : settings_said state.in_force frame ≡ []
+  no-settings = rw plain.ack refl
+
+  met-step : (s : ℕ) → meets s frame ≡ true → step_of state.in_force frame s ≡ frame_step frame
+  met-step s met = rw (met, no-change) refl
+
+  abbrev after-of : ℕ → Stream
+  after-of s = stream_after s state.in_force.initial (state.streams s) (as_step frame None s)
+
+  past-frame : (s : ℕ) → meets s frame ≡ false → state.streams s ≡ after-of s
+  past-frame s unmet = (step-past s state.in_force.initial frame (state.streams s) unmet).after
+
+  all-met : IsInRange frame → AreAllSaid state frame (met-by frame)
+  all-met range = record {
+    named = each-append (λ (s : ℕ). 0 < s) (first_of frame.stream []) (first_of (promised_by frame) [])
+        (named-first frame.stream [] tt) (named-first (promised_by frame) [] tt);
+    once = once-first frame.stream (promised_by frame) (promised-other frame);
+    small = each-append (λ (s : ℕ). s < 2 ^ 31) (first_of frame.stream []) (first_of (promised_by frame) [])
+        (small-first frame.stream range.stream) (small-first (promised_by frame) (promised-small frame range));
+    others = λ other above none.
+        let parts = none-both (λ one. one == other) (first_of frame.stream []) (first_of (promised_by frame) []) none in
+        let unmet = unmet-other frame other (among-first frame.stream other above parts.0)
+        (among-first (promised_by frame) other above parts.1) in
+        rw no-change (none-shown _ (step-past other state.in_force.initial frame (state.streams other) unmet).said);
+  }
+
+  -- what the code adds of a stream that meets the frame
+  entry-said : (s : ℕ) (entry : Stream) → (0 < s → state.streams s ≡ entry) → (0 < s → meets s frame ≡ true)
+      → flat_map (λ one. stream_said one old.initial entry (frame_step frame)) (first_of s [])
+      ≡ flat_map (said_of state frame) (first_of s [])
+  entry-said s entry is met =
+      flat-first s (λ one. stream_said one old.initial entry (frame_step frame)) (said_of state frame)
+      (λ some.
+      ap (λ (initial : Sides ℕ). stream_said s initial entry (frame_step frame)) stands.initial
+      ∙ ap (λ (one : Stream). stream_said s state.in_force.initial one (frame_step frame)) (sym (is some))
+      ∙ ap (λ (step : Step). stream_said s state.in_force.initial (state.streams s) step) (sym (met-step s (met some))))
+
+  -- what it keeps of one
+  entry-next : (s : ℕ) (entry after : Stream) → (0 < s → state.streams s ≡ entry) → (0 < s → meets s frame ≡ true)
+      → (0 < s → after ≡ stream_after s old.initial entry (frame_step frame)) → 0 < s → after-of s ≡ after
+  entry-next s entry after is met next-is some =
+      let step : as_step frame None s ≡ frame_step frame = rw (met some) refl in
+      ap (λ (step : Step). stream_after s state.in_force.initial (state.streams s) step) step
+      ∙ ap (λ (one : Stream). stream_after s state.in_force.initial one (frame_step frame)) (is some)
+      ∙ ap (λ (initial : Sides ℕ). stream_after s initial entry (frame_step frame)) (sym stands.initial)
+      ∙ sym (next-is some)
+
+  -- the machine after the frame
+  next-stands : (new : QuietPass) {connection : ConnectionState} → IsConnectionKept frame connection old new
+      → connection ≡ connection_after state.connection (item_of state frame) → AreStreams after-of new.streams
+      → StandsFor new (next state frame)
+  next-stands new keeps connection streams = record {
+    client = keeps.client ∙ last-if _ frame state.previous.client old.last.client stands.client;
+    server = keeps.server ∙ last-if _ frame state.previous.server old.last.server stands.server;
+    pending = rw keeps.pending (plain-brought frame state.in_force old.pending plain stands.pending).kept;
+    initial = keeps.initial ∙ stands.initial
+        ∙ ap (λ (change : Option Change). initial_after change state.in_force.initial) (sym no-change);
+    connection = keeps.kept ∙ connection;
+    streams = subst (λ (change : Option Change). AreStreams (λ s.
+        stream_after s state.in_force.initial (state.streams s) (as_step frame change s)) new.streams) (sym no-change)
+        streams;
+  }
+
+  module _ (own promised : Stream) (own-is : 0 < frame.stream → after-of frame.stream ≡ own)
+      (promised-is : 0 < promised_by frame → after-of (promised_by frame) ≡ promised) where
+    abbrev mid-of : ℕ → Stream
+    mid-of s = if s == frame.stream then own else state.streams s
+
+    mid-other : (s : ℕ) → s ≢ frame.stream → mid-of s ≡ state.streams s
+    mid-other s differ = rw (ne_eqb s frame.stream differ) refl
+
+    mid-own : (s : ℕ) → s ≡ frame.stream → mid-of s ≡ own
+    mid-own s same = rw (eq-eqb s frame.stream same) refl
+
+    after-mid : (s : ℕ) → 0 < s → s ≢ promised_by frame → after-of s ≡ mid-of s
+    after-mid s above apart = elim (cases_eq s frame.stream) [
+      | inl same ↦
+          ap after-of same ∙ own-is (subst (λ n. 0 < n) same above) ∙ sym (mid-own s same)
+      | inr differ ↦ sym (past-frame s (unmet-other frame s differ apart)) ∙ sym (mid-other s differ)
+    ]
+
+    kept-streams : {new : QuietPass} {connection : ConnectionState}
+        → IsKeptAfter frame connection own promised old new → AreStreams after-of new.streams
+    kept-streams {new} kept =
+        streams-put (promised_by frame) promised mid-of after-of promised-is after-mid kept.mid new.streams
+        (streams-put frame.stream own state.streams mid-of (λ some. mid-own frame.stream refl)
+        (λ s above differ. mid-other s differ) old.streams kept.mid stands.streams kept.one) kept.other
+
+-- the whole of it
+pub said-plain : {frame : Frame} {old new : QuietPass} {opens : Bool} {connection : ConnectionState}
+    {start before one after found : List Finding} {own-next promised-next : Stream} (own promised : Stream) (p : ℕ)
+    → p ≡ promised_by frame → IsInRange frame → BringsNothing frame
+    → (0 < frame.stream → (streams : ℕ → Stream) → AreStreams streams old.streams → streams frame.stream ≡ own)
+    → (0 < p → (streams : ℕ → Stream) → AreStreams streams old.streams → streams p ≡ promised)
     → opens ≡ is_opening frame.stream own.life frame
     → IsConnectionSaid old frame opens None start before connection → start ≡ []
-    → found ≡ shown false (in_order (before
-    ++ stream_said frame.stream old.initial own (frame_step frame)))
-    → entry ≡ stream_after frame.stream old.initial own (frame_step frame)
-    → (list_any stops found ≡ false → IsKeptAfter frame connection entry old new)
+    → IsEntrySaid frame.stream old.initial frame own own-next before one
+    → IsEntrySaid p old.initial frame promised promised-next one after
+    → found ≡ shown false (in_order after)
+    → (list_any stops found ≡ false → IsKeptAfter frame connection own-next promised-next old new)
     → (state : PassState) → StandsFor old state → IsSaidStep state frame found new
-said-on-stream {frame} {old} {new} {opens} {connection} {start} {before} {found} {entry} own moves some stood
-    opening spoken empty is entered kept state stands =
-    let row : own ≡ state.streams frame.stream = sym (stood state.streams stands.streams) in
-    let opened : opens ≡ opens_stream state frame =
-    opening ∙ ap (λ (one : Stream). is_opening frame.stream one.life frame) row ∙ sym (opens-own frame state) in
-    let item = item-is frame old state stands moves.plain moves.unpromised opens opened in
-    let front : List Finding = local_said (side_of frame.side state.previous) frame
-    ++ connection_said state.connection (item_of state frame) in
-    let one : List Finding =
-    stream_said frame.stream state.in_force.initial (state.streams frame.stream) (frame_step frame) in
-    let all : found ≡ shown false (in_order (front ++ one)) =
-    is ∙ ap (λ l. shown false (in_order (l
-    ++ stream_said frame.stream old.initial own (frame_step frame))))
-    (spoken-front frame old state opens None spoken empty stands item)
-    ∙ ap (λ initial. shown false (in_order (front
-    ++ stream_said frame.stream initial own (frame_step frame)))) stands.initial
-    ∙ ap (λ (one : Stream). shown false (in_order (front
-    ++ stream_said frame.stream state.in_force.initial one (frame_step frame)))) row in record {
-      shown = λ streams name. shown-all frame old state stands moves.plain moves.unpromised one streams
-          (shown-on-stream frame old state stands moves.plain moves.unpromised some streams name) ∙ sym all;
-      goes_on = λ on.
-          let keeps = kept on in
-          next-stands frame old state stands moves.plain moves.unpromised new keeps.rest
-          (spoken-next frame old state opens None spoken stands item)
-          (put-streams frame old state stands moves.plain moves.unpromised some entry
-          (entered
-          ∙ ap (λ initial. stream_after frame.stream initial own (frame_step frame)) stands.initial
-          ∙ ap (λ (one : Stream). stream_after frame.stream state.in_force.initial one (frame_step frame)) row)
-          new.streams keeps.streams);
-      numbered = rw all (numbered frame old state stands moves.plain moves.unpromised moves.range one
-          (at-stream frame.stream state.in_force.initial (state.streams frame.stream) (frame_step frame)
-          moves.range.stream));
-    }
+said-plain {frame} {old} {new} {opens} {connection} {start} {before} {one} {after} {found} {own-next} {promised-next}
+    own promised p named range plain own-stood stood opening spoken empty said-own other-said is kept state stands =
+    let promised-stood =
+    subst (λ (n : ℕ). 0 < n → (streams : ℕ → Stream) → AreStreams streams old.streams → streams n ≡ promised) named
+    stood in
+    let said-promised =
+    subst (λ (n : ℕ). IsEntrySaid n old.initial frame promised promised-next one after) named other-said in
+    let own-is = λ (some : 0 < frame.stream). own-stood some state.streams stands.streams in
+    let promised-is = λ (some : 0 < promised_by frame). promised-stood some state.streams stands.streams in
+    let item : as_item frame opens None ≡ item_of state frame =
+    rw (opens-as frame state opens own own-is opening, no-change frame old state stands plain) refl in
+    let whole : after ≡ before ++ streams_said (met-by frame) state frame =
+    said-promised.said
+    ∙ ap₂ (λ (a b : List Finding). a ++ b)
+    (said-own.said
+    ∙ ap (λ l. before ++ l)
+    (entry-said frame old state stands plain frame.stream own own-is (λ _. own-met frame)))
+    (entry-said frame old state stands plain (promised_by frame) promised promised-is (promised-met frame))
+    ∙ append_assoc before (flat_map (said_of state frame) (first_of frame.stream []))
+    (flat_map (said_of state frame) (first_of (promised_by frame) []))
+    ∙ ap (λ l. before ++ l)
+    (sym (flat_map-append (said_of state frame) (first_of frame.stream []) (first_of (promised_by frame) []))) in
+    said-step stands spoken item after (met-by frame) (all-met frame old state stands plain range) range
+    (empty ∙ sym (no-settings frame old state stands plain))
+    (ap (shown false) whole ∙ shown-append false before (streams_said (met-by frame) state frame)) is
+    (λ on.
+    let keeps = kept on in
+    next-stands frame old state stands plain new keeps.rest (spoken-next stands spoken item)
+    (kept-streams frame old state stands plain own-next promised-next
+    (entry-next frame old state stands plain frame.stream own own-next own-is (λ _. own-met frame) said-own.next)
+    (entry-next frame old state stands plain (promised_by frame) promised promised-next promised-is
+    (promised-met frame) said-promised.next) keeps))

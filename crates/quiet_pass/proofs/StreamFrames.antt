@@ -1,15 +1,19 @@
--- A frame that needs no opened stream, on one without a row, and what a row answers.
-use Rattle.stream_credit.proofs.Words.{then_some, or_parts, ◌≡◌, ℕ, Bool, true, false, List, refl, sym, ap, ◌∙◌, arith}
-use Rattle.stream_credit.proofs.Words.{subst, and-false, or-false, Side, Client, Server, Sides, Body, WindowUpdate}
-use Rattle.stream_credit.proofs.Words.{Frame, StreamLife, Stream, side_of, is_reset, increment, ends_window}
-use Rattle.stream_credit.proofs.Words.{life_after, stream_said, stream_after, frame_step, ForSome}
-use Rattle.stream_credit.proofs.Words.{same_Some, AreQuiet}
-use Rattle.audit_terms.specs.Frame.{is_content, is_headers, is_update, needs_opening, is_server_promise}
+-- A frame that moves no stream but by a change, and what a row answers.
+use Rattle.stream_credit.proofs.Words.{then_some, or_parts, ◌≡◌, ℕ, Bool, true, false, List, [], Some, None, Option}
+use Rattle.stream_credit.proofs.Words.{refl, sym, ◌∙◌, arith, subst, and-false, or-false, ◌||◌, cases_Bool, inl, inr}
+use Rattle.stream_credit.proofs.Words.{Side, Client, Server, Sides, Body, WindowUpdate, Frame, Change, Step, Stream}
+use Rattle.stream_credit.proofs.Words.{is_reset, increment, ends_window, content_by, grant_to, frame_said, is_last_of}
+use Rattle.stream_credit.proofs.Words.{life_after, stream_said, stream_after, stream_window_said, frame_step, ForSome}
+use Rattle.stream_credit.proofs.Words.{same_Some, StreamLife, ℤ, window_after}
+use Rattle.std.proofs.Common.{ap₂}
+use Rattle.audit_terms.specs.Frame.{is_content, is_headers, is_update, meets, needs_opening, is_server_promise}
 use Rattle.audit_terms.specs.Life.{is_opening}
-use Rattle.stream_credit.proofs.QuietSteps.{frame-quiet, IsQuietAt, quiet-same, stream-quiet, stream-moved}
-use Rattle.stream_credit.proofs.StandingLemmas.{promises-other, unlast}
+use Rattle.stream_credit.proofs.QuietSteps.{change_alone}
 use Rattle.quiet_pass.specs.declared.opened_rows.Row.{Row}
+use Rattle.quiet_pass.specs.code.QuietPass.{MovesNoStream}
 use Rattle.quiet_pass.specs.code.Rows.{entry_in, AreRising, IsMetOn}
+use Rattle.quiet_pass.specs.code.Streams.{as_step, IsStep}
+use Rattle.quiet_pass.proofs.StreamLemmas.{step-alone, unmoved-entry}
 
 -- what a frame opens, where nothing is shown of it
 pub ForSome-quiet : (quiet opens : Bool) (P : Bool → Type 0) → (quiet ≡ true → P opens)
@@ -17,55 +21,124 @@ pub ForSome-quiet : (quiet opens : Bool) (P : Bool → Type 0) → (quiet ≡ tr
 ForSome-quiet true opens P h = λ x e. subst P (same_Some _ _ e) (h refl)
 ForSome-quiet false opens P h = λ x e. cc
 
--- ---- a frame that needs no opened stream does nothing to the stream that it is on
+-- ---- a frame that moves no stream but by a change
 
 no-increment : (body : Body) → is_update body ≡ false → increment body ≡ 0
 no-increment (WindowUpdate amount) e = cc
 no-increment _ e = refl
 
-module _ (frame : Frame) (content : is_content frame.body ≡ false) (headers : is_headers frame.body ≡ false)
-    (reset : is_reset frame.body ≡ false) (update : is_update frame.body ≡ false)
-    (unpromised : is_server_promise frame ≡ false) (initial : Sides ℕ) (entry : Stream) where
+module _ (frame : Frame) (still : MovesNoStream frame) (s : ℕ) (initial : Sides ℕ) (entry : Stream) where
+  update : is_update frame.body ≡ false
+  update = (or_parts _ _ still.unneeded).1
+
+  unended : (is_content frame.body || is_headers frame.body || is_reset frame.body) ≡ false
+  unended = (or_parts _ _ still.unneeded).0
+
+  reset : is_reset frame.body ≡ false
+  reset = (or_parts _ _ unended).1
+
+  unsent : (is_content frame.body || is_headers frame.body) ≡ false
+  unsent = (or_parts _ _ unended).0
+
+  content : is_content frame.body ≡ false
+  content = (or_parts _ _ unsent).0
+
+  headers : is_headers frame.body ≡ false
+  headers = (or_parts _ _ unsent).1
+
+  unpromised : is_server_promise frame ≡ false
+  unpromised = still.unpromised
+
   goes_on : (d : Side) → ends_window d frame ≡ false
   goes_on d = simp (content, headers, reset, and-false)
 
-  unopened : is_opening frame.stream entry.life frame ≡ false
-  unopened = simp (headers, promises-other, and-false)
+  granted : (d : Side) → grant_to d s frame ≡ 0
+  granted d = let none = no-increment frame.body update in grind arith
 
-  quiet : (d : Side) → IsQuietAt d frame.stream initial (frame_step frame) (side_of d entry.window)
-      (side_of d entry.window)
-  quiet d =
-      let none = no-increment frame.body update in
-      quiet-same d frame.stream initial frame (grind arith)
-      (simp (content, and-false)) (goes_on d) (side_of d entry.window)
+  sent : (d : Side) → content_by d frame ≡ 0
+  sent d = simp (content, and-false)
 
-  said : AreQuiet (stream_said frame.stream initial entry (frame_step frame))
-  said =
-      stream-quiet frame.stream initial entry (frame_step frame) entry.window unopened quiet
-      (frame-quiet frame.stream entry (frame_step frame) frame
-      (simp (content, headers, reset, update, unpromised)) (simp (content, headers)) (simp update))
+  pub unopened-still : is_opening s entry.life frame ≡ false
+  unopened-still = simp (headers, unpromised, and-false)
 
-  after : entry ≡ stream_after frame.stream initial entry (frame_step frame)
-  after =
-      sym (stream-moved frame.stream initial entry (frame_step frame) entry.window unopened quiet
-      ∙ ap (λ (life : StreamLife). record { life = life; window = entry.window }) kept)
-    where
-      kept : life_after frame.stream entry.life frame ≡ entry.life
-      kept =
-          let client = unlast Client frame (goes_on Client) in
-          let server = unlast Server frame (goes_on Server) in
-          simp (unopened, client, server, and-false, or-false)
+  silent : (step : Step) → frame_said s entry step frame ≡ []
+  silent step = simp (content, headers, reset, update, unpromised)
+
+  window-still : (d : Side) (change : Option Change)
+      → stream_window_said d s initial entry (record { number = frame.number; frame = Some frame; change = change })
+      ≡ stream_window_said d s initial entry (change_alone frame.number change)
+  window-still d change = rw (unopened-still, granted d, sent d, goes_on d) refl
+
+  life-still : life_after s entry.life frame ≡ entry.life
+  life-still =
+      let client : is_last_of Client s frame ≡ false = simp (content, headers, reset, unpromised, and-false) in
+      let server : is_last_of Server s frame ≡ false = simp (content, headers, reset, unpromised, and-false) in
+      simp (unopened-still, client, server, and-false, or-false)
+
+  met-said : (change : Option Change)
+      → stream_said s initial entry (record { number = frame.number; frame = Some frame; change = change })
+      ≡ stream_said s initial entry (change_alone frame.number change)
+  met-said change =
+      rw (
+        silent (record { number = frame.number; frame = Some frame; change = change }),
+        window-still Client change,
+        window-still Server change,
+      ) refl
+
+  window-after-still : (d : Side) (change : Option Change) (window : Option ℤ)
+      → window_after d s initial (record { number = frame.number; frame = Some frame; change = change }) window
+      ≡ window_after d s initial (change_alone frame.number change) window
+  window-after-still d change None = refl
+  window-after-still d change (Some before) = rw (granted d, sent d, goes_on d) refl
+
+  met-after : (change : Option Change)
+      → stream_after s initial entry (record { number = frame.number; frame = Some frame; change = change })
+      ≡ stream_after s initial entry (change_alone frame.number change)
+  met-after change =
+      let windows : (stream_after s initial entry
+      (record { number = frame.number; frame = Some frame; change = change })).window
+      ≡ (stream_after s initial entry (change_alone frame.number change)).window =
+      rw unopened-still
+      (ap₂ (λ (client server : Option ℤ). record { client = client; server = server })
+      (window-after-still Client change entry.window.client) (window-after-still Server change entry.window.server)) in
+      ap₂ (λ (life : StreamLife) (window : Sides (Option ℤ)). record { life = life; window = window }) life-still
+      windows
+
+  -- it is as if the stream did not meet the frame
+  pub said-still : (change : Option Change)
+      → stream_said s initial entry (as_step frame change s)
+      ≡ stream_said s initial entry (change_alone frame.number change)
+  said-still change = elim (cases_Bool (meets s frame)) [
+    | inl met ↦ rw met (met-said change)
+    | inr unmet ↦ rw unmet refl
+  ]
+
+  pub after-still : (change : Option Change)
+      → stream_after s initial entry (as_step frame change s)
+      ≡ stream_after s initial entry (change_alone frame.number change)
+  after-still change = elim (cases_Bool (meets s frame)) [
+    | inl met ↦ rw met (met-after change)
+    | inr unmet ↦ rw unmet refl
+  ]
+
+  -- and without a change, nothing is shown and nothing moves
+  none-still : IsStep s initial (change_alone frame.number None) entry entry
+  none-still = step-alone s initial initial frame.number None entry entry (unmoved-entry initial entry) refl
+
+  pub step-still : IsStep s initial (frame_step frame) entry entry
+  step-still = record {
+    said = rw (met-said None) none-still.said;
+    after = none-still.after ∙ sym (met-after None);
+  }
 
 pub idle-met : (frame : Frame) → needs_opening frame ≡ false → is_server_promise frame ≡ false → (initial : Sides ℕ)
     (rows : List Row) → AreRising rows → IsMetOn frame.stream initial frame false rows rows
 idle-met frame unneeded unpromised initial rows rising =
-    let (others, update) = or_parts _ _ unneeded in
-    let (either, reset) = or_parts _ _ others in
-    let (content, headers) = or_parts _ _ either in
+    let still : MovesNoStream frame = record { unneeded = unneeded; unpromised = unpromised } in
     let entry = entry_in rows frame.stream in record {
-      opening = unopened frame content headers reset update unpromised initial entry;
-      said = said frame content headers reset update unpromised initial entry;
-      after = after frame content headers reset update unpromised initial entry;
+      opening = unopened-still frame still frame.stream initial entry;
+      said = (step-still frame still frame.stream initial entry).said;
+      after = (step-still frame still frame.stream initial entry).after;
       others = λ other differ. refl;
       rising = rising;
     }

@@ -7,29 +7,34 @@ use Rattle.stream_credit.proofs.Words.{int_lt, option_map, and-false, cases_Bool
 use Rattle.stream_credit.proofs.Words.{[], Option, or-false, cases_eq}
 use Rattle.stream_credit.proofs.Words.{eq-eqb, IsQuietMove, and-true}
 use Rattle.std.proofs.Common.{◌%◌, ◌≢◌, ap₂}
-use Rattle.stream_credit.proofs.Words.{eqb-true}
 use Rattle.audit_terms.specs.Frame.{is_server_promise, promised_in, meets}
 use Rattle.stream_credit.proofs.QuietSteps.{change_alone, quiet-changes, stream-quiet, stream-moved}
 use Rattle.quiet_pass.specs.declared.opened_rows.Row.{Row}
 use Rattle.quiet_pass.specs.declared.kept_streams.Streams.{Streams}
-use Rattle.quiet_pass.specs.code.Rows.{entry_in, AreRisingFrom, AreRising, IsMetOn, AreMoved}
-use Rattle.quiet_pass.specs.code.Streams.{AreStreams, as_step, IsStep, AreMet, AreMetOn, AreAllMoved}
+use Rattle.quiet_pass.specs.code.Rows.{entry_in, AreRisingFrom, AreRising, IsMetOn, IsPut, AreMoved}
+use Rattle.quiet_pass.specs.code.Streams.{AreStreams, as_step, IsStep, AreMet, AreMetOn, AreAllMoved, ArePut}
 use Rattle.quiet_pass.specs.code.HeldStreams.{held, IsEntryMoved}
 
 -- ---- a stream that the frame does not meet
 
-pub step-moved : (s : ℕ) (initial after : Sides ℕ) (frame : Frame) (change : Option Change) (entry next : Stream)
-    → IsEntryMoved initial after entry next → after ≡ initial_after change initial → meets s frame ≡ false
-    → IsStep s initial (as_step frame change s) entry next
-step-moved s initial after frame change entry next m is unmet =
-    let step = change_alone frame.number change in
-    let quiet = quiet-changes s initial frame.number change after entry.window next.window is m.client m.server
+pub step-alone : (s : ℕ) (initial after : Sides ℕ) (number : ℕ) (change : Option Change) (entry next : Stream)
+    → IsEntryMoved initial after entry next → after ≡ initial_after change initial
+    → IsStep s initial (change_alone number change) entry next
+step-alone s initial after number change entry next m is =
+    let step = change_alone number change in
+    let quiet = quiet-changes s initial number change after entry.window next.window is m.client m.server
     m.client_quiet m.server_quiet in
-    rw unmet (record {
+    record {
       said = stream-quiet s initial entry step next.window refl quiet tt;
       after = ap (λ (life : StreamLife). record { life = life; window = next.window }) m.life
           ∙ sym (stream-moved s initial entry step next.window refl quiet);
-    })
+    }
+
+step-moved : (s : ℕ) (initial after : Sides ℕ) (frame : Frame) (change : Option Change) (entry next : Stream)
+    → IsEntryMoved initial after entry next → after ≡ initial_after change initial → meets s frame ≡ false
+    → IsStep s initial (as_step frame change s) entry next
+step-moved s initial after frame change entry next m is unmet =
+    rw unmet (step-alone s initial after frame.number change entry next m is)
 
 -- windows that stay where the initial window does
 window-stays : (i : ℕ) (window : Option ℤ) → window ≡ option_map (credit_after_change i i) window
@@ -42,7 +47,7 @@ window-quiet window credit e next f =
     let level : int_lt credit credit ≡ false = grind (arith, ints) in
     rw (← same) (refl, rw level refl)
 
-unmoved-entry : (initial : Sides ℕ) (entry : Stream) → IsEntryMoved initial initial entry entry
+pub unmoved-entry : (initial : Sides ℕ) (entry : Stream) → IsEntryMoved initial initial entry entry
 unmoved-entry initial entry = record {
   life = refl;
   client = window-stays initial.client entry.window.client;
@@ -168,32 +173,31 @@ module _ (initial : Sides ℕ) (frame : Frame) (old new : Streams) (streams : �
 
 -- ---- rows that a change moves
 
-pub entries-moved : (but : ℕ) (before after : Sides ℕ) (old new : List Row) (stream : ℕ) → stream ≢ but
-    → AreMoved but before after old new
+entries-moved : (before after : Sides ℕ) (old new : List Row) (stream : ℕ) → AreMoved before after old new
     → IsEntryMoved before after (entry_in old stream) (entry_in new stream)
-entries-moved but before after [] [] stream differ m =
+entries-moved before after [] [] stream m =
     record { life = refl; client = refl; server = refl; client_quiet = λ credit e. cc; server_quiet = λ credit e. cc }
-entries-moved but before after (one ∷ old) (two ∷ new) stream differ m =
+entries-moved before after (one ∷ old) (two ∷ new) stream m =
     let row = m.0 in
     rw row.same (elim (cases_Bool (one.stream == stream)) [
-      | inl e ↦ rw e (row.moved (λ own. differ (sym (eqb-true one.stream stream e) ∙ own)))
-      | inr e ↦ rw e (entries-moved but before after old new stream differ m.1)
+      | inl e ↦ rw e row.moved
+      | inr e ↦ rw e (entries-moved before after old new stream m.1)
     ])
-entries-moved but before after _ _ stream differ m = absurd m
+entries-moved before after _ _ stream m = absurd m
 
-pub rising-moved : (but : ℕ) (before after : Sides ℕ) (low : ℕ) (old new : List Row) → AreMoved but before after old new
+rising-moved : (before after : Sides ℕ) (low : ℕ) (old new : List Row) → AreMoved before after old new
     → AreRisingFrom low old → AreRisingFrom low new
-rising-moved but before after low [] [] m h = tt
-rising-moved but before after low (one ∷ old) (two ∷ new) m h =
-    rw m.0.same (h.0, rising-moved but before after one.stream old new m.1 h.1)
-rising-moved but before after low _ _ m h = absurd m
+rising-moved before after low [] [] m h = tt
+rising-moved before after low (one ∷ old) (two ∷ new) m h =
+    rw m.0.same (h.0, rising-moved before after one.stream old new m.1 h.1)
+rising-moved before after low _ _ m h = absurd m
 
-unmoved-rows : (initial : Sides ℕ) (rows : List Row) → AreMoved 0 initial initial rows rows
+unmoved-rows : (initial : Sides ℕ) (rows : List Row) → AreMoved initial initial rows rows
 unmoved-rows initial [] = tt
 unmoved-rows initial (row ∷ rows) =
-    (record { same = refl; moved = λ _. unmoved-entry initial (held row.standings) }, unmoved-rows initial rows)
+    (record { same = refl; moved = unmoved-entry initial (held row.standings) }, unmoved-rows initial rows)
 
-pub unmoved : (initial : Sides ℕ) (streams : Streams) → AreAllMoved 0 initial initial streams streams
+pub unmoved : (initial : Sides ℕ) (streams : Streams) → AreAllMoved initial initial streams streams
 unmoved initial streams = grind (arith, unmoved-rows initial)
 
 pub same-sides : (a b : Sides ℕ) → a.client ≡ b.client → a.server ≡ b.server → a ≡ b
@@ -203,7 +207,7 @@ same-sides a b c s =
 -- ---- all streams, at a frame on stream 0
 
 pub all-moved : (initial after : Sides ℕ) (frame : Frame) (change : Option Change) (old new : Streams)
-    (streams : ℕ → Stream) → AreAllMoved 0 initial after old new → after ≡ initial_after change initial
+    (streams : ℕ → Stream) → AreAllMoved initial after old new → after ≡ initial_after change initial
     → frame.stream ≡ 0 → is_server_promise frame ≡ false → AreStreams streams old
     → AreMet initial frame change streams new
 all-moved initial after frame change old new streams m is zero unpromised h =
@@ -212,10 +216,58 @@ all-moved initial after frame change old new streams m is zero unpromised h =
     ∙ ne_eqb frame.stream s (λ e. absurd (omega (arith, zero, above, e))) in
     all-met initial frame change streams new
     (λ s q. rw (h.odd s q) (step-moved s initial after frame change _ _
-    (entries-moved 0 initial after old.opened.items new.opened.items s (λ e. absurd (omega (arith, q, e))) m.opened) is
-    (unmet s (omega (arith, q)))))
+    (entries-moved initial after old.opened.items new.opened.items s m.opened) is (unmet s (omega (arith, q)))))
     (λ s q above. rw (h.even s q above) (step-moved s initial after frame change _ _
-    (entries-moved 0 initial after old.promised.items new.promised.items s (λ e. absurd (omega (arith, above, e)))
-    m.promised) is (unmet s above)))
-    (rising-moved 0 initial after 0 old.opened.items new.opened.items m.opened h.opened)
-    (rising-moved 0 initial after 0 old.promised.items new.promised.items m.promised h.promised)
+    (entries-moved initial after old.promised.items new.promised.items s m.promised) is (unmet s above)))
+    (rising-moved initial after 0 old.opened.items new.opened.items m.opened h.opened)
+    (rising-moved initial after 0 old.promised.items new.promised.items m.promised h.promised)
+
+-- ---- streams that are kept
+
+pub streams-same : (f g : ℕ → Stream) (kept : Streams) → ((o : ℕ) → 0 < o → f o ≡ g o) → AreStreams f kept
+    → AreStreams g kept
+streams-same f g kept same h = record {
+  odd = λ o p. sym (same o (omega (arith, p))) ∙ h.odd o p;
+  even = λ o p above. sym (same o above) ∙ h.even o p above;
+  opened = h.opened;
+  promised = h.promised;
+}
+
+module _ (s : ℕ) (entry : Stream) (f g : ℕ → Stream) (own : 0 < s → g s ≡ entry)
+    (others : (o : ℕ) → 0 < o → o ≢ s → g o ≡ f o) where
+  put-rows : (before rows : List Row) → IsPut s entry before rows → (o : ℕ) → 0 < o → f o ≡ entry_in before o
+      → g o ≡ entry_in rows o
+  put-rows before rows put o above e = elim (cases_eq o s) [
+    | inl same ↦
+        subst (λ (n : ℕ). g n ≡ entry_in rows n) (sym same) (own (subst (λ n. 0 < n) same above) ∙ sym put.own)
+    | inr differ ↦ others o above differ ∙ e ∙ sym (put.others o differ)
+  ]
+
+  same-rows : (before rows : List Row) → rows ≡ before → (o : ℕ) → 0 < o → o ≢ s → f o ≡ entry_in before o
+      → g o ≡ entry_in rows o
+  same-rows before rows same o above differ e =
+      others o above differ ∙ e ∙ ap (λ (rows : List Row). entry_in rows o) (sym same)
+
+  -- one of them is put, and the others stay
+  pub streams-put : (old new : Streams) → AreStreams f old → ArePut s entry old new → AreStreams g new
+  streams-put old new h put = elim (cases_eq (s % 2) 1) [
+    | inl odd ↦
+        let one = (put.odd odd).0 h.opened in
+        let same = (put.odd odd).1 in record {
+          odd = λ o q. put-rows old.opened.items new.opened.items one o (omega (arith, q)) (h.odd o q);
+          even = λ o q above. same-rows old.promised.items new.promised.items same o above
+              (λ e. absurd (omega (arith, q, odd, e))) (h.even o q above);
+          opened = one.rising;
+          promised = rw same h.promised;
+        }
+    | inr other ↦
+        let even : s % 2 ≡ 0 = omega (arith, other) in
+        let one = (put.even even).0 h.promised in
+        let same = (put.even even).1 in record {
+          odd = λ o q. same-rows old.opened.items new.opened.items same o (omega (arith, q))
+              (λ e. absurd (omega (arith, q, even, e))) (h.odd o q);
+          even = λ o q above. put-rows old.promised.items new.promised.items one o above (h.even o q above);
+          opened = rw same h.opened;
+          promised = one.rising;
+        }
+  ]

@@ -1,7 +1,7 @@
 //! All streams of a connection.
 
-ghost use Rattle.std.specs.Prelude.{◌≡◌, ℕ, ◌<◌, ◌≤◌, ◌-◌, ◌^◌, true, false, [], IfNone, IfOk};
-ghost use Rattle.std.specs.Bool.{OnTrue};
+ghost use Rattle.std.specs.Prelude.{◌≡◌, ℕ, ◌<◌, ◌≤◌, ◌-◌, ◌^◌, true, false, [], None, IfNone, IfOk};
+ghost use Rattle.std.specs.Bool.{OnTrue, OnFalse};
 ghost use Rattle.std.specs.Option.{ForSome};
 ghost use Rattle.audit_terms.specs.declared.sides.Sides.{Sides as SidesTerm};
 ghost use Rattle.audit_terms.specs.declared.stream_state.Stream.{Stream as StreamTerm};
@@ -11,9 +11,8 @@ ghost use Rattle.quiet_pass.specs.code.Rows.{AreRising, IsMetOn};
 ghost use Rattle.quiet_pass.specs.code.Streams.{AreStreams, AreMetOn, AreAllMoved, ArePut};
 ghost use Rattle.quiet_pass.specs.code.Streams.{IsChangeSaid};
 
-use crate::opened_rows::{Row, entry_of, first_shown, meet, move_all, open, put};
-use audit_terms::{Change, Finding, Frame, Sides, Step, Stream, initial_after, row_of};
-use fault_rules::say_stream;
+use crate::opened_rows::{Row, entry_of, meet, move_all, new_row, open, put, say_all};
+use audit_terms::{Finding, Frame, Sides, Step, Stream, row_of};
 use std::alloc::{AllocError, Global};
 
 /// The rows of the streams that were opened.
@@ -56,10 +55,10 @@ impl Streams {
         }
     }
 
-    /// The stream of an identifier.
+    /// The stream of an identifier other than 0.
     pub(crate) fn entry_of(&self, stream: u32) -> Stream
-        requires { 0 < stream }
-        ensures same { (streams : ℕ → StreamTerm) → AreStreams streams self.now → streams stream ≡ result }
+        ensures same { 0 < stream → (streams : ℕ → StreamTerm) → AreStreams streams self.now
+            → streams stream ≡ result }
         ensures client { WindowHasRoom (2 ^ 60) result.window.client }
         ensures server { WindowHasRoom (2 ^ 60) result.window.server }
     {
@@ -89,70 +88,64 @@ impl Streams {
         frame: &Frame,
     ) -> Result<bool, AllocError>
         requires { is_server_promise frame.now ≡ true }
-        ensures { IfOk result (λ quiet. OnTrue quiet ((streams : ℕ → StreamTerm) → AreStreams streams self.old
+        ensures quiet { IfOk result (λ quiet. OnTrue quiet ((streams : ℕ → StreamTerm) → AreStreams streams self.old
             → AreMetOn initial.now frame.now false streams self.new)) }
+        ensures left { IfOk result (λ quiet. OnFalse quiet (self.new ≡ self.old)) }
     {
-        if frame.stream % 2 == 0 || !meet_opened(&mut self.opened, frame) {
+        if frame.stream % 2 == 0 {
             return Ok(false);
         }
-        open(&mut self.promised, frame.body.promised(), initial, frame)
-    }
-
-    /// The first stream of which a change of the initial windows in force may show something.
-    pub(crate) fn first_shown(&self, before: &Sides<u32>, after: &Sides<u32>) -> Option<u32> {
-        if let Some(stream) = first_shown(self.opened.as_slice(), before, after) {
-            return Some(stream);
+        let promised = frame.body.promised();
+        let Some(row) = new_row(self.promised.as_slice(), promised, initial, frame) else {
+            return Ok(false);
+        };
+        if !meet_opened(&mut self.opened, frame) {
+            return Ok(false);
         }
-        first_shown(self.promised.as_slice(), before, after)
+        self.promised.push(row)?;
+        Ok(true)
     }
 
-    /// Meets a change of the initial windows in force, but for one stream, and returns false if that may show something
-    /// (6.9.2).
-    pub(crate) fn move_windows(&mut self, but: u32, before: &Sides<u32>, after: &Sides<u32>) -> bool
-        ensures { OnTrue result (AreAllMoved but before.now after.now self.old self.new) }
+    /// How many streams were opened.
+    pub(crate) fn count(&self) -> usize {
+        self.opened.len().saturating_add(self.promised.len())
+    }
+
+    /// Meets a change of the initial windows in force, and returns false if that may show something (6.9.2).
+    pub(crate) fn move_windows(&mut self, before: &Sides<u32>, after: &Sides<u32>) -> bool
+        ensures { OnTrue result (AreAllMoved before.now after.now self.old self.new) }
     {
-        move_all(&mut self.opened, but, before, after)
-            && move_all(&mut self.promised, but, before, after)
+        move_all(&mut self.opened, before, after) && move_all(&mut self.promised, before, after)
     }
 
-    /// Meets such a change, which a frame on stream 0 brings, and adds what it shows of one stream; returns false if it
-    /// may show something of others, or no row can say the stream.
+    /// Meets a step without a frame, and adds what it shows of all streams; returns whether rows can say all streams
+    /// then. Nothing, if the rows are not those of a connection.
     pub(crate) fn say_change(
         &mut self,
         found: &mut Vec<Finding>,
-        stream: u32,
         initial: &Sides<u32>,
-        frame: &Frame,
-        change: &Option<Change>,
-    ) -> Result<bool, AllocError>
-        requires zero { frame.now.stream ≡ 0 }
-        requires unpromised { is_server_promise frame.now ≡ false }
-        requires numbered { frame.now.number ≤ 2 ^ 28 - 2 }
-        ensures { IfOk result (λ done. OnTrue done (IsChangeSaid initial.now frame.now change.now self.old self.new
+        step: &Step,
+    ) -> Result<Option<bool>, AllocError>
+        requires alone { step.now.frame ≡ None }
+        requires numbered { step.now.number ≤ 2 ^ 28 - 2 }
+        ensures { IfOk result (λ said. ForSome said (λ kept. IsChangeSaid initial.now step.now kept self.old self.new
             found.old.items found.new.items)) }
     {
-        if stream == 0 || (1 << 31) <= stream {
-            return Ok(false);
-        }
-        let mut entry = self.entry_of(stream);
-        let after = initial_after(change, initial);
-        if !self.move_windows(stream, initial, &after) {
-            return Ok(false);
-        }
-        let step = Step {
-            number: frame.number,
-            frame: None,
-            change: *change,
+        let Some(odd) = say_all(&mut self.opened, 1, found, initial, step)? else {
+            return Ok(None);
         };
-        say_stream(found, &mut entry, stream, initial, &step)?;
-        self.put(stream, &entry)
+        let Some(even) = say_all(&mut self.promised, 0, found, initial, step)? else {
+            return Ok(None);
+        };
+        Ok(Some(odd & even))
     }
 }
 
 /// Meets a frame on a stream that has to be opened, and returns false if that may show something.
 fn meet_opened(rows: &mut Vec<Row>, frame: &Frame) -> bool
-    ensures { OnTrue result (AreRising rows.old.items → (initial : SidesTerm ℕ)
+    ensures quiet { OnTrue result (AreRising rows.old.items → (initial : SidesTerm ℕ)
         → IsMetOn frame.now.stream initial frame.now false rows.old.items rows.new.items) }
+    ensures left { OnFalse result (rows.new ≡ rows.old) }
 {
     match row_of(rows.as_slice(), frame.stream) {
         Some(at) => meet(rows, at, frame),

@@ -1,17 +1,19 @@
 //! A row for each stream that was opened, in the order of identifiers, which is that of openings (RFC 9113, 5.1.1).
 
-ghost use Rattle.std.specs.Prelude.{◌≡◌, ◌^◌, ℕ, true, false, IfOk};
+ghost use Rattle.std.specs.Prelude.{◌≡◌, ◌<◌, ◌≤◌, ◌-◌, ◌^◌, ℕ, true, false, [], ◌∷◌, ◌++◌, None, IfOk};
 ghost use Rattle.std.specs.Bool.{OnTrue, OnFalse};
 ghost use Rattle.std.specs.Option.{ForSome};
 ghost use Rattle.audit_terms.specs.Stream.{idle_stream};
 ghost use Rattle.audit_terms.specs.code.Room.{WindowHasRoom};
 ghost use Rattle.audit_terms.specs.declared.sides.Sides.{Sides as SidesTerm};
 ghost use Rattle.quiet_pass.specs.code.Rows.{IsRowOf, IsRowAfter, IsOpened, AreRising, IsMetOn};
-ghost use Rattle.quiet_pass.specs.code.Rows.{AreMoved, IsAboveAll, IsPut, IsRowMoved, entry_in};
+ghost use Rattle.quiet_pass.specs.code.Rows.{AreMoved, AreRowsSaid, IsAboveAll, IsPut, IsRowMoved, IsRowOfParity};
+ghost use Rattle.quiet_pass.specs.code.Rows.{IsRowSaid, entry_in};
 ghost use Rattle.quiet_pass.specs.code.HeldStreams.{held};
 
 use crate::held_streams::{held, held_after_change, hold, is_low};
-use audit_terms::{Frame, OfStream, Sides, Stream, row_of};
+use audit_terms::{Finding, Frame, OfStream, Sides, Step, Stream, initial_after, row_of};
+use fault_rules::say_stream;
 use std::alloc::AllocError;
 use stream_credit::Standings;
 
@@ -72,18 +74,49 @@ impl Row {
         opened == 0 && client == 0 && server == 0
     }
 
-    /// The row after a change of the initial windows in force, if that shows nothing (RFC 9113, 6.9.2); the row of one
-    /// stream stays as it is.
-    fn after_change(&self, but: u32, before: &Sides<u32>, after: &Sides<u32>) -> Option<Row>
-        ensures { ForSome result (IsRowMoved but before.now after.now self.now) }
+    /// The row after a change of the initial windows in force, if that shows nothing (RFC 9113, 6.9.2).
+    fn after_change(&self, before: &Sides<u32>, after: &Sides<u32>) -> Option<Row>
+        ensures { ForSome result (IsRowMoved before.now after.now self.now) }
     {
-        if self.stream == but {
-            return Some(*self);
-        }
         Some(Row {
             standings: held_after_change(&self.standings, before, after)?,
             ..*self
         })
+    }
+
+    /// Adds what a step without a frame shows of the row's stream, and brings the row past the step; returns false if
+    /// no row can say the stream then.
+    fn say_change(
+        &mut self,
+        found: &mut Vec<Finding>,
+        initial: &Sides<u32>,
+        step: &Step,
+    ) -> Result<bool, AllocError>
+        requires alone { step.now.frame ≡ None }
+        requires numbered { step.now.number ≤ 2 ^ 28 - 2 }
+        requires small { self.old.stream < 2 ^ 31 }
+        ensures { IfOk result (λ kept. IsRowSaid initial.now step.now kept self.old self.new found.old.items
+            found.new.items) }
+    {
+        let after = initial_after(&step.change, initial);
+        if let Some(next) = self.after_change(initial, &after) {
+            *self = next;
+            return Ok(true);
+        }
+        let mut entry = held(&self.standings);
+        say_stream(found, &mut entry, self.stream, initial, step)?;
+        let Some(standings) = hold(&entry) else {
+            return Ok(false);
+        };
+        self.standings = standings;
+        Ok(true)
+    }
+
+    /// Is it of a stream of a connection, whose identifier has this remainder by 2?
+    fn is_of_parity(&self, remainder: u32) -> bool
+        ensures { OnTrue result (IsRowOfParity remainder self.now) }
+    {
+        self.stream % 2 == remainder && self.stream < 1 << 31
     }
 }
 
@@ -185,8 +218,18 @@ fn is_above_all(rows: &[Row], stream: u32) -> bool
     }
 }
 
-/// Adds a row if a frame opens this stream, above those of all rows, and shows nothing but credits; returns whether it
-/// did.
+/// The row of a stream that a frame opens, if that is above those of all rows, and shows nothing but credits.
+pub(crate) fn new_row(rows: &[Row], stream: u32, initial: &Sides<u32>, frame: &Frame) -> Option<Row>
+    ensures { ForSome result (λ row. AreRising rows.now
+        → IsMetOn stream initial.now frame.now true rows.now (rows.now ++ row ∷ [])) }
+{
+    if !is_above_all(rows, stream) {
+        return None;
+    }
+    Row::opened(stream, initial, frame)
+}
+
+/// Adds that row, if there is one; returns whether it did.
 pub(crate) fn open(
     rows: &mut Vec<Row>,
     stream: u32,
@@ -197,10 +240,7 @@ pub(crate) fn open(
         → IsMetOn stream initial.now frame.now true rows.old.items rows.new.items)) }
     ensures left { IfOk result (λ opened. OnFalse opened (rows.new ≡ rows.old)) }
 {
-    if !is_above_all(rows.as_slice(), stream) {
-        return Ok(false);
-    }
-    match Row::opened(stream, initial, frame) {
+    match new_row(rows.as_slice(), stream, initial, frame) {
         Some(row) => {
             rows.push(row)?;
             Ok(true)
@@ -209,30 +249,42 @@ pub(crate) fn open(
     }
 }
 
-/// The first stream of which a change of the initial windows in force may show something.
-pub(crate) fn first_shown(rows: &[Row], before: &Sides<u32>, after: &Sides<u32>) -> Option<u32> {
-    for row in rows {
-        if row.after_change(0, before, after).is_none() {
-            return Some(row.stream);
-        }
-    }
-    None
-}
-
-/// Meets a change of the initial windows in force, but for one stream, and returns false if that may show something.
-pub(crate) fn move_all(
-    rows: &mut Vec<Row>,
-    but: u32,
-    before: &Sides<u32>,
-    after: &Sides<u32>,
-) -> bool
-    ensures { OnTrue result (AreMoved but before.now after.now rows.old.items rows.new.items) }
+/// Meets a change of the initial windows in force, and returns false if that may show something.
+pub(crate) fn move_all(rows: &mut Vec<Row>, before: &Sides<u32>, after: &Sides<u32>) -> bool
+    ensures { OnTrue result (AreMoved before.now after.now rows.old.items rows.new.items) }
 {
     for at in 0..rows.len() {
-        let Some(next) = rows[at].after_change(but, before, after) else {
+        let Some(next) = rows[at].after_change(before, after) else {
             return false;
         };
         rows[at] = next;
     }
     true
+}
+
+/// Adds what a step without a frame shows of the streams of all rows, and brings the rows past the step; returns
+/// whether rows can say all streams then. Nothing, if one of them is not of this remainder by 2.
+pub(crate) fn say_all(
+    rows: &mut Vec<Row>,
+    remainder: u32,
+    found: &mut Vec<Finding>,
+    before: &Sides<u32>,
+    step: &Step,
+) -> Result<Option<bool>, AllocError>
+    requires alone { step.now.frame ≡ None }
+    requires numbered { step.now.number ≤ 2 ^ 28 - 2 }
+    ensures { IfOk result (λ said. ForSome said (λ kept. AreRowsSaid remainder before.now step.now kept
+        rows.old.items rows.new.items found.old.items found.new.items)) }
+{
+    let mut are_kept = true;
+    for at in 0..rows.len() {
+        let mut row = rows[at];
+        if !row.is_of_parity(remainder) {
+            return Ok(None);
+        }
+        let is_kept = row.say_change(found, before, step)?;
+        are_kept = are_kept & is_kept;
+        rows[at] = row;
+    }
+    Ok(Some(are_kept))
 }

@@ -8,7 +8,7 @@ ghost use Rattle.audit_terms.specs.Side.{is_side};
 ghost use Rattle.audit_terms.specs.Frame.{is_ack, is_server_promise};
 ghost use Rattle.audit_terms.specs.code.LastFrame.{last_of};
 ghost use Rattle.quiet_pass.specs.code.QuietPass.{StandsFor, IsQuietStep, IsQuietAfter, BringsNothing, IsRestMet};
-ghost use Rattle.quiet_pass.specs.code.QuietPass.{IsBroughtInto, IsLeft};
+ghost use Rattle.quiet_pass.specs.code.QuietPass.{IsBroughtInto, IsLeft, MovesNoStream};
 
 use crate::kept_connection::KeptConnection;
 use crate::kept_streams::Streams;
@@ -17,9 +17,8 @@ use audit_terms::{Body, Change, FIRST_WINDOW, Frame, LastFrame, Side, Sides, ini
 use settings_pair::Pending;
 use std::alloc::{AllocError, Global};
 
-/// The most changes that move windows. Each updates all rows, and a frame opens one row at most: so a frame costs a
-/// bounded time, its own and at most 64 moves of a row.
-const MOST_MOVING_CHANGES: u32 = 64;
+/// How many rows changes may move for each frame so far: a change that moves windows updates all of them.
+const MOST_MOVES: u64 = 64;
 
 /// A connection between two of its frames, for as long as it is quiet.
 #[derive(Drop)]
@@ -32,8 +31,8 @@ pub struct QuietPass {
     pub(crate) initial: Sides<u32>,
     pub(crate) connection: KeptConnection,
     pub(crate) streams: Streams,
-    /// How many more changes may move windows.
-    pub(crate) moves_left: u32,
+    /// How many rows changes have moved.
+    pub(crate) moves: u64,
     /// Did it give up at a frame that a part of it had met? Then it stands for nothing.
     pub(crate) is_lost: bool,
 }
@@ -49,7 +48,7 @@ impl QuietPass {
             initial: Sides::both(FIRST_WINDOW),
             connection: KeptConnection::start(),
             streams: Streams::new(alloc),
-            moves_left: MOST_MOVING_CHANGES,
+            moves: 0,
             is_lost: false,
         }
     }
@@ -138,15 +137,14 @@ impl QuietPass {
         ensures quiet { IfOk result (λ met. OnTrue met (IsRestMet frame.now self.old self.new)) }
         ensures left { IfOk result (λ met. OnFalse met (IsLeft self.old self.new)) }
     {
-        // Both are to be met, so it is lost unless both are quiet.
-        self.is_lost = true;
+        let mut connection = self.connection;
+        if !connection.meet(frame, false, &None) {
+            return Ok(false);
+        }
         if !self.streams.promise(&self.initial, frame)? {
             return Ok(false);
         }
-        if !self.connection.meet(frame, false, &None) {
-            return Ok(false);
-        }
-        self.is_lost = false;
+        self.connection = connection;
         Ok(true)
     }
 
@@ -177,31 +175,42 @@ impl QuietPass {
         if !self.connection.meet(frame, false, &change) {
             return Ok(false);
         }
-        let is_quiet = self.bring(&change);
+        let is_quiet = self.bring(frame, &change);
         Ok(is_quiet)
     }
 
-    /// Brings the initial windows of a change into force, and returns false if that may show something (RFC 9113,
-    /// 6.9.2).
-    pub(crate) fn bring(&mut self, change: &Option<Change>) -> bool
+    /// Brings the initial windows of a frame's change into force, and returns false if that may show something (RFC
+    /// 9113, 6.9.2).
+    fn bring(&mut self, frame: &Frame, change: &Option<Change>) -> bool
         ensures { OnTrue result (IsBroughtInto change.now self.old self.new) }
     {
         let after = initial_after(change, &self.initial);
         if after.client == self.initial.client && after.server == self.initial.server {
             return true;
         }
-        if self.moves_left == 0 || !self.streams.move_windows(0, &self.initial, &after) {
+        let Some(moves) = self.moves_with(frame) else {
+            return false;
+        };
+        if !self.streams.move_windows(&self.initial, &after) {
             return false;
         }
-        self.moves_left -= 1;
+        self.moves = moves;
         self.initial = after;
         true
     }
+
+    /// How many rows changes have moved, if a frame moves all of them, and may do so.
+    pub(crate) fn moves_with(&self, frame: &Frame) -> Option<u64> {
+        let moves = self.moves.saturating_add(self.streams.count() as u64);
+        let most = (u64::from(frame.number) + 1) * MOST_MOVES;
+        (moves <= most).then_some(moves)
+    }
 }
 
-/// Is it a SETTINGS or an acknowledgement? Other frames bring no change.
+/// Is it a SETTINGS or an acknowledgement? These move no stream but by a change, and other frames bring none.
 pub(crate) fn is_of_settings(frame: &Frame) -> bool
-    ensures { OnFalse result (BringsNothing frame.now) }
+    ensures settings { OnTrue result (MovesNoStream frame.now) }
+    ensures others { OnFalse result (BringsNothing frame.now) }
 {
     matches!(frame.body, Body::Settings(_) | Body::SettingsAck)
 }

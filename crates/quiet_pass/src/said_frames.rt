@@ -1,18 +1,16 @@
 //! What a frame shows that is not quiet, where the connection and its streams can be kept after it as before.
 
-ghost use Rattle.std.specs.Prelude.{◌≡◌, ◌<◌, ◌^◌, ◌++◌, false, IfOk, OnOk};
+ghost use Rattle.std.specs.Prelude.{◌≡◌, ◌<◌, ◌^◌, false, IfOk, OnOk};
 ghost use Rattle.std.specs.Bool.{OnTrue};
 ghost use Rattle.std.specs.List.{list_any};
 ghost use Rattle.std.specs.Option.{ForSome};
 ghost use Rattle.audit_terms.specs.code.Room.{WindowHasRoom};
 ghost use Rattle.audit_terms.specs.code.runs.Orderly.{IsInRange};
-ghost use Rattle.audit_terms.specs.code.runs.Streams.{frame_step};
 ghost use Rattle.audit_terms.specs.Finding.{in_order, shown, stops};
 ghost use Rattle.audit_terms.specs.Pass.{PassState};
-ghost use Rattle.audit_terms.specs.Stream.{stream_after, stream_said};
-ghost use Rattle.quiet_pass.specs.code.QuietPass.{StandsFor};
-ghost use Rattle.quiet_pass.specs.code.SaidFrames.{IsConnectionSaid, IsKeptAfter, IsSaidStep};
-ghost use Rattle.quiet_pass.specs.code.SaidFrames.{MovesOneStream};
+ghost use Rattle.quiet_pass.specs.code.QuietPass.{BringsNothing, StandsFor};
+ghost use Rattle.quiet_pass.specs.code.SaidFrames.{IsConnectionKept, IsConnectionSaid, IsEntrySaid, IsKeptAfter};
+ghost use Rattle.quiet_pass.specs.code.SaidFrames.{IsSaidStep};
 
 use crate::kept_connection::KeptConnection;
 use crate::passes::{QuietPass, is_of_settings, keep_last};
@@ -35,63 +33,39 @@ impl QuietPass {
             → IsSaidStep state frame.now found.items self.new)) }
         ensures kept { IfOk result (λ said. ForSome said (λ _. self.old.is_lost ≡ false)) }
     {
-        if self.is_lost || frame.is_server_promise() {
+        if self.is_lost {
             return Ok(None);
         }
         if is_of_settings(frame) {
             return self.say_settings(alloc, frame);
         }
-        if frame.stream == 0 {
-            self.say_on_connection(alloc, frame)
-        } else {
-            self.say_on_stream(alloc, frame)
-        }
+        self.say_plain(alloc, frame)
     }
 
-    /// What a frame on stream 0 shows.
-    fn say_on_connection(
+    /// What a frame shows that brings no change: by itself, of the connection, and of its stream and the one that it
+    /// promises.
+    fn say_plain(
         &mut self,
         alloc: Global,
         frame: &Frame,
     ) -> Result<Option<Vec<Finding>>, AllocError>
-        requires moves { MovesOneStream frame.now }
-        requires streamed { frame.now.stream ≡ 0 }
+        requires range { IsInRange frame.now }
+        requires plain { BringsNothing frame.now }
         ensures { IfOk result (λ said. ForSome said (λ found. (state : PassState) → StandsFor self.old state
             → IsSaidStep state frame.now found.items self.new)) }
     {
         let mut found = Vec::new(alloc);
-        let connection = self.say_alone(&mut found, frame, false, &None)?;
-        if shows_stop(&mut found)? {
-            return Ok(Some(found));
-        }
-        let Some(connection) = KeptConnection::of(&connection) else {
-            return Ok(None);
-        };
-        self.connection = connection;
-        keep_last(&mut self.last, frame);
-        Ok(Some(found))
-    }
-
-    /// What a frame on a stream shows.
-    fn say_on_stream(
-        &mut self,
-        alloc: Global,
-        frame: &Frame,
-    ) -> Result<Option<Vec<Finding>>, AllocError>
-        requires moves { MovesOneStream frame.now }
-        requires streamed { 0 < frame.now.stream }
-        ensures { IfOk result (λ said. ForSome said (λ found. (state : PassState) → StandsFor self.old state
-            → IsSaidStep state frame.now found.items self.new)) }
-    {
-        let mut found = Vec::new(alloc);
-        let mut entry = self.streams.entry_of(frame.stream);
-        let opens = entry.life.is_opening(frame.stream, frame);
+        let mut own = self.streams.entry_of(frame.stream);
+        let other = frame.promised_by();
+        let mut promised = self.streams.entry_of(other);
+        let opens = own.life.is_opening(frame.stream, frame);
         let connection = self.say_alone(&mut found, frame, opens, &None)?;
-        self.say_entry(&mut found, &mut entry, frame)?;
+        self.say_entry(&mut found, &mut own, frame.stream, frame)?;
+        self.say_entry(&mut found, &mut promised, other, frame)?;
         if shows_stop(&mut found)? {
             return Ok(Some(found));
         }
-        if !self.keep_after(frame, &connection, &entry)? {
+        if !self.keep_after(frame, &connection, &own, &promised)? {
             return Ok(None);
         }
         Ok(Some(found))
@@ -119,48 +93,63 @@ impl QuietPass {
         Ok(connection)
     }
 
-    /// Adds what a frame shows of its stream, and brings the stream to its state after it.
+    /// Adds what a frame shows of a stream that meets it, and brings the stream to its state after it. Stream 0 is
+    /// none.
     fn say_entry(
         &self,
         found: &mut Vec<Finding>,
         entry: &mut Stream,
+        stream: u32,
         frame: &Frame,
     ) -> Result<(), AllocError>
         requires range { IsInRange frame.now }
+        requires small { stream < 2 ^ 31 }
         requires client { WindowHasRoom (2 ^ 60) entry.old.window.client }
         requires server { WindowHasRoom (2 ^ 60) entry.old.window.server }
-        ensures said { OnOk result (found.new.items ≡ found.old.items
-            ++ stream_said frame.now.stream self.now.initial entry.old (frame_step frame.now)) }
-        ensures after { OnOk result (entry.new
-            ≡ stream_after frame.now.stream self.now.initial entry.old (frame_step frame.now)) }
+        ensures { OnOk result (IsEntrySaid stream self.now.initial frame.now entry.old entry.new found.old.items
+            found.new.items) }
     {
+        if stream == 0 {
+            return Ok(());
+        }
         let step = Step {
             number: frame.number,
             frame: Some(*frame),
             change: None,
         };
-        say_stream(found, entry, frame.stream, &self.initial, &step)
+        say_stream(found, entry, stream, &self.initial, &step)?;
+        Ok(())
     }
 
-    /// Keeps the connection and the frame's stream as they are after the frame; returns false if they cannot be kept.
+    /// Keeps the connection as it is after a frame; returns false if it cannot be kept.
+    pub(crate) fn keep_connection(&mut self, frame: &Frame, connection: &ConnectionState) -> bool
+        ensures kept { OnTrue result (IsConnectionKept frame.now connection.now self.old self.new) }
+        ensures streams { self.new.streams ≡ self.old.streams }
+    {
+        let Some(connection) = KeptConnection::of(connection) else {
+            return false;
+        };
+        self.connection = connection;
+        keep_last(&mut self.last, frame);
+        true
+    }
+
+    /// Keeps the connection, the frame's stream and the one that it promises as they are after the frame; returns false
+    /// if they cannot be kept.
     fn keep_after(
         &mut self,
         frame: &Frame,
         connection: &ConnectionState,
-        entry: &Stream,
+        own: &Stream,
+        promised: &Stream,
     ) -> Result<bool, AllocError>
         ensures { IfOk result (λ kept. OnTrue kept
-            (IsKeptAfter frame.now connection.now entry.now self.old self.new)) }
+            (IsKeptAfter frame.now connection.now own.now promised.now self.old self.new)) }
     {
-        let Some(connection) = KeptConnection::of(connection) else {
-            return Ok(false);
-        };
-        if !self.streams.put(frame.stream, entry)? {
+        if !self.keep_connection(frame, connection) || !self.streams.put(frame.stream, own)? {
             return Ok(false);
         }
-        self.connection = connection;
-        keep_last(&mut self.last, frame);
-        Ok(true)
+        self.streams.put(frame.promised_by(), promised)
     }
 }
 

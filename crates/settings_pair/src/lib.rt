@@ -6,7 +6,8 @@
 //!   that has not: exactly `changes_of` and `settings_run` of `audit_terms`. Only the body of SETTINGS and
 //!   acknowledgements counts: on a stream other than 0 they wait and pair all the same.
 //! - [`Pending`] keeps the SETTINGS of a connection, which are mostly few, and says what each frame brings
-//!   (`change_of`). [`pair`] meets all frames by it, and the quiet pass its frames one by one.
+//!   (`change_of`). [`pair`] meets all frames by it, and the quiet pass its frames one by one. [`say_unmatched`] says
+//!   of one acknowledgement that it answers nothing.
 //! - For callers that use the changes: their numbers rise, and the frame of each is an acknowledgement.
 //!   [`worked_examples`] are short runs of the definitions: the oldest SETTINGS are taken first, and nothing that is
 //!   sent later.
@@ -20,5 +21,5 @@ mod pairing;
 mod pending_settings;
 pub mod worked_examples;
 
-pub use pairing::{Pairs, pair};
+pub use pairing::{Pairs, pair, say_unmatched};
 pub use pending_settings::Pending;

@@ -8,7 +8,7 @@ ghost use Rattle.audit_terms.specs.Finding.{finding_at, say};
 ghost use Rattle.settings_pair.specs.code.Pending.{IsPending};
 
 use crate::pending_settings::Pending;
-use audit_terms::{Change, Finding, Frame, Kind};
+use audit_terms::{Change, Finding, Frame, Kind, say_if};
 use std::alloc::{AllocError, Global};
 
 /// What the acknowledgements of a connection's frames bring into force, and which of them answer nothing.
@@ -77,24 +77,29 @@ fn add(pairs: &mut Pairs, frame: &Frame, change: Option<Change>) -> Result<(), A
         ++ say (is_ack frame.now.body && is_none change)
         (finding_at Kind.UnmatchedAck frame.now.number frame.now.stream frame.now.side (pos 0))) }
 {
-    match change {
-        Some(change) => pairs.changes.push(change)?,
-        None if frame.body.is_ack() => pairs.findings.push(unmatched(frame))?,
-        None => {}
+    say_unmatched(&mut pairs.findings, frame, &change)?;
+    if let Some(change) = change {
+        pairs.changes.push(change)?;
     }
     Ok(())
 }
 
-/// An acknowledgement with nothing to answer.
-fn unmatched(frame: &Frame) -> Finding
+/// Adds an acknowledgement that answers nothing: one that brings no change (RFC 9113, 6.5.3).
+pub fn say_unmatched(
+    found: &mut Vec<Finding>,
+    frame: &Frame,
+    change: &Option<Change>,
+) -> Result<(), AllocError>
     requires { IsInRange frame.now }
-    ensures { result ≡ finding_at Kind.UnmatchedAck frame.now.number frame.now.stream frame.now.side (pos 0) }
+    ensures { OnOk result (found.new.items ≡ found.old.items ++ say (is_ack frame.now.body && is_none change.now)
+        (finding_at Kind.UnmatchedAck frame.now.number frame.now.stream frame.now.side (pos 0))) }
 {
-    Finding::at(
+    let unmatched = Finding::at(
         Kind::UnmatchedAck,
         frame.number,
         frame.stream,
         frame.side,
         0,
-    )
+    );
+    say_if(found, frame.body.is_ack() && change.is_none(), unmatched)
 }

@@ -1,7 +1,7 @@
 -- What the program does with what it is lent.
-use Rattle.std.specs.Prelude.{◌≡◌, ◌⊎◌, ℕ, Bool, true, false, ⊤, Option, None, Some, IfSome, List, []}
+use Rattle.std.specs.Prelude.{◌≡◌, ◌≤◌, ◌<◌, ◌⊎◌, ℕ, Bool, true, false, ⊤, Option, None, Some, IfSome, List, []}
 use Rattle.std.specs.Prelude.{◌∷◌, ◌++◌, Result, Ok, Err, IsErrAnd, MatchBool, MatchResult, String, codes}
-use Rattle.std.specs.Prelude.{if◌then◌else◌, length, map}
+use Rattle.std.specs.Prelude.{if◌then◌else◌, is_some, length, map}
 use Rattle.std.specs.Prelude.{string_bytes, take, Contains, ◌+◌}
 use Rattle.std.specs.Global.{Global}
 use Rattle.std.specs.Io.Buffered.{writer_buffer, writer_capacity, writer_contents, writer_inner}
@@ -31,10 +31,12 @@ use Rattle.split_program.specs.declared.paths.PartPaths.{PartPaths}
 use Rattle.split_program.specs.declared.paths.Paths.{Paths}
 
 -- a writer that gathers so many bytes for a file, and holds none yet
-pub record IsOver {F : Type 0} (file : F) (size : ℕ) (writer : BufWriter F Global) : Type 0 where
-  pub inner : writer_inner writer ≡ file
-  pub none : writer_buffer writer ≡ []
-  pub capacity : writer_capacity writer ≡ size
+abbrev pub IsOver : {F : Type 0} → F → ℕ → BufWriter F Global → Type 0
+IsOver file size writer = (writer_inner writer ≡ file) × (writer_buffer writer ≡ []) × (writer_capacity writer ≡ size)
+
+-- what was read is the header of a capture, as far as it has one
+abbrev pub HasHeader : (had has : Option (List ℕ)) → List ℕ → Type 0
+HasHeader had has header = Consumes had has header × (length header ≤ 24) × (length header < 24 → IsAtEnd has)
 
 -- what may be called while a split is finished: lines are said, files of parts removed, and the summary is written
 abbrev pub IsFinishing : {F : Type 0} → Paths → Call F → Type 0
@@ -151,13 +153,15 @@ module _ {O F : Type 0} (does : O → Call F → O → Type 0) (contents left : 
       × Splits header had has mid later parts split next × DidOnly does (IsFinishing paths) next after
       × IsToldAs 4 e)))
 
-  -- a folder is made once the header was read and is not refused; after a failure nothing is left in it
+  -- a folder is made once the header was read and is not refused; after a failure nothing is left in it. Where nothing
+  -- was done, a read failed, or what there was of the header is refused; or memory was wanting
   abbrev pub WorksIn : (had has : Option (List ℕ)) → O → Words → List (String Global) → O → Result Ending Failure
       → Type 0
-  WorksIn had has before words later after answer = ((after ≡ before) × IsErrAnd answer (λ e. ⊤))
+  WorksIn had has before words later after answer = ((after ≡ before) × IsErrAnd answer (λ e. IsToldAs 4 e
+      ⊎ ((header : List ℕ) × HasHeader had has header × (is_some (refusal header) ≡ true) × IsToldAs 3 e)))
       ⊎ ((does before (MadeFolder (string_bytes words.folder) false) after) × IsErrAnd answer (IsToldAs 4))
       ⊎ ((header : List ℕ) × (between : Option (List ℕ)) × (paths : Paths) × (made mid : O)
-      × (length header ≡ 24) × (refusal header ≡ None) × Consumes had between header
+      × HasHeader had between header × (refusal header ≡ None)
       × AreNamed (string_bytes words.folder) 1 paths.parts.items × (length paths.parts.items ≡ words.parts)
       × (string_bytes paths.summary ≡ summary_path (string_bytes words.folder))
       × does before (MadeFolder (string_bytes words.folder) true) made
@@ -177,4 +181,4 @@ module _ {O F : Type 0} (does : O → Call F → O → Type 0) (contents left : 
   Does had has before after status (Ok (asked.Split words)) = (mid : O) × (answer : Result Ending Failure)
       × Runs had has before words words.files.items mid answer × EndsWith does mid after status answer
   Does had has before after status (Ok (asked.Text text)) = IsShown does before (string_bytes text) after status
-  Does had has before after status (Err e) = EndsWith does before after status (Err e)
+  Does had has before after status (Err e) = IsToldAs 2 e × EndsWith does before after status (Err e)

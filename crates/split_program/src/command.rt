@@ -1,6 +1,6 @@
 //! The command line of the program.
 
-ghost use Rattle.std.specs.Prelude.{◌≡◌, ◌<◌, IfOk, List, Some, codes, false, map, pos, true};
+ghost use Rattle.std.specs.Prelude.{◌≡◌, ◌<◌, IfErr, IfOk, List, Some, codes, false, map, pos, true};
 ghost use Rattle.clap.specs.Lexer.{usize_max};
 ghost use Rattle.clap.specs.Simple.{on_top};
 ghost use Rattle.clap.specs.Words.{Text, app_of, found_of, matches_of, new_app, new_rule, rows_of, rule_of};
@@ -8,6 +8,7 @@ ghost use Rattle.clap.specs.declared.builder.action.ArgAction.TheVariants.{Appen
 ghost use Rattle.clap.specs.declared.builder.value_parser.ValueParser.TheVariants as value;
 ghost use Rattle.split_program.specs.Asked.{Asks};
 ghost use Rattle.split_program.specs.CommandLine.{app, option_rule};
+ghost use Rattle.split_program.specs.Ending.{IsToldAs};
 ghost use Rattle.split_program.specs.code.Parts.{ArePartsOf, HasParts};
 
 use crate::asked::{Asked, Words};
@@ -35,7 +36,8 @@ const STATUS: &str = concat!(
 
 /// Reads the words of the command line, without the program's name.
 pub fn parse_words(alloc: Global, words: &[&str]) -> Result<Asked, Failure>
-    ensures { IfOk result (Asks (map (λ w. w.now) words.now)) }
+    ensures asked { IfOk result (Asks (map (λ w. w.now) words.now)) }
+    ensures told { IfErr result (IsToldAs 2) }
 {
     match matches(alloc, words) {
         Ok(found) => split_asked(alloc, &found),
@@ -46,7 +48,9 @@ pub fn parse_words(alloc: Global, words: &[&str]) -> Result<Asked, Failure>
 /// The split that words ask for in which clap finds no fault.
 fn split_asked(alloc: Global, found: &ArgMatches<'_>) -> Result<Asked, Failure>
     requires { HasParts (found_of found.now) }
-    ensures { (words : List Text) → rows_of (found_of found.now) ≡ matches_of app words → IfOk result (Asks words) }
+    ensures asked { (words : List Text) → rows_of (found_of found.now) ≡ matches_of app words
+        → IfOk result (Asks words) }
+    ensures told { IfErr result (IsToldAs 2) }
 {
     let folder = String::from_str(alloc, found.get_str("output").unwrap_or(""))?;
     let files = copies(alloc, found.get_strs("FILE").unwrap_or(&[]))?;
@@ -68,7 +72,8 @@ fn parts_in(found: &ArgMatches<'_>) -> usize
 }
 
 fn unparsed(alloc: Global, error: &Error) -> Result<Asked, Failure>
-    ensures { (words : List Text) → IfOk result (Asks words) }
+    ensures asked { (words : List Text) → IfOk result (Asks words) }
+    ensures told { IfErr result (IsToldAs 2) }
 {
     let kind = error.kind();
     if kind == ErrorKind::OutOfMemory {

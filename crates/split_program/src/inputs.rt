@@ -1,9 +1,9 @@
 //! The files that the program reads.
 
-ghost use Rattle.std.specs.Prelude.{◌≡◌, None, IfErr, IfOk, length};
-ghost use Rattle.std.specs.Io.KnownBytes.{Consumes};
+ghost use Rattle.std.specs.Prelude.{◌≡◌, ◌⊎◌, ℕ, IfErr, IfOk, List, None, is_some, length, true};
 ghost use Rattle.pcap_records.specs.Refusal.{refusal};
 ghost use Rattle.split_program.specs.Ending.{IsToldAs, status_at};
+ghost use Rattle.split_program.specs.Program.{HasHeader};
 
 use crate::failure::Failure;
 use crate::paths::Paths;
@@ -19,7 +19,10 @@ pub type Header = [u8; FILE_HEADER];
 pub fn begin<R: Read>(alloc: Global, files: &[String], reader: &mut R) -> Result<Header, Failure>
     ensures long { IfOk result (λ header. length header ≡ 24) }
     ensures taken { IfOk result (λ header. refusal header ≡ None) }
-    ensures read { IfOk result (λ header. Consumes (R.remaining reader.old) (R.remaining reader.new) header) }
+    ensures read { IfOk result (HasHeader (R.remaining reader.old) (R.remaining reader.new)) }
+    ensures failed { IfErr result (λ e. IsToldAs 4 e ⊎ ((header : List ℕ)
+        × HasHeader (R.remaining reader.old) (R.remaining reader.new) header × (is_some (refusal header) ≡ true)
+        × IsToldAs 3 e)) }
 {
     let mut header = [0; FILE_HEADER];
     let Ok(count) = read_header(reader, &mut header) else {

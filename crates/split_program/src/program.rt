@@ -1,12 +1,13 @@
 //! What the program does.
 
-ghost use Rattle.std.specs.Prelude.{◌≡◌, ◌<◌, ◌≤◌, IfOk, MatchResult, None, Result as ResultTerm, drop, length, map};
-ghost use Rattle.std.specs.Prelude.{string_bytes, vec_len};
+ghost use Rattle.std.specs.Prelude.{◌≡◌, ◌<◌, ◌≤◌, IfErr, IfOk, MatchResult, None, Result as ResultTerm, drop};
+ghost use Rattle.std.specs.Prelude.{length, map, string_bytes, vec_len};
 ghost use Rattle.std.specs.Process.{exit_status};
 ghost use Rattle.std.specs.Result.{IsOkAnd};
 ghost use Rattle.std.specs.Vec.Iter.{into_iter_items};
 ghost use Rattle.pcap_records.specs.Refusal.{refusal};
 ghost use Rattle.split_program.specs.Asked.{Asks};
+ghost use Rattle.split_program.specs.Ending.{IsToldAs};
 ghost use Rattle.split_program.specs.Program.{Does, EndsWith, IsShown, RemovesAll, Runs, Works, WorksIn};
 ghost use Rattle.split_program.specs.declared.asked.Asked.{Asked as AskedTerm};
 ghost use Rattle.split_program.specs.declared.failure.Failure.{Failure as FailureTerm};
@@ -47,8 +48,9 @@ pub fn run_program<I: Read, F: Read + Write + Drop, O: Outside<F>>(
 }
 
 fn words_asked(alloc: Global, words: io::Result<Args>) -> Result<Asked, Failure>
-    ensures { IfOk result (λ asked.
+    ensures asked { IfOk result (λ asked.
         IsOkAnd words (λ words. Asks (map string_bytes (drop 1 (into_iter_items words))) asked)) }
+    ensures told { IfErr result (IsToldAs 2) }
 {
     match words {
         Ok(words) => asked_by(alloc, words),
@@ -57,7 +59,8 @@ fn words_asked(alloc: Global, words: io::Result<Args>) -> Result<Asked, Failure>
 }
 
 fn asked_by(alloc: Global, words: Args) -> Result<Asked, Failure>
-    ensures { IfOk result (Asks (map string_bytes (drop 1 (into_iter_items words)))) }
+    ensures asked { IfOk result (Asks (map string_bytes (drop 1 (into_iter_items words)))) }
+    ensures told { IfErr result (IsToldAs 2) }
 {
     let words = behind_name(alloc, words)?;
     let texts = texts_of(alloc, words.as_slice())?;
@@ -76,7 +79,9 @@ fn behind_name(alloc: Global, mut words: Args) -> Result<Vec<String>, AllocError
     Ok(behind)
 }
 
-fn words_not_text(alloc: Global) -> Failure {
+fn words_not_text(alloc: Global) -> Failure
+    ensures { IsToldAs 2 result }
+{
     match String::from_str(alloc, "error: a word is not text") {
         Ok(text) => Failure::Words(text),
         Err(_) => Failure::OutOfMemory,

@@ -1,6 +1,6 @@
 pub mod Belongings
 pub mod FlowLemmas
-pub mod Fronts
+mod Takings
 pub mod Growth
 pub mod GrowthLaws
 pub mod IntervalLemmas

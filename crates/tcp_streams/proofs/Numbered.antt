@@ -12,8 +12,8 @@ use Rattle.std.proofs.lemmas.List.{length-take, take_more, Elements.All-map}
 use Rattle.std.proofs.lemmas.Option.{gets, slice_get_cases}
 use Rattle.packet_heads.specs.code.Standing.{IsPassedOver}
 
-past_after-push : (past : List Segment) (xs : List Packet) (p : Packet) → past_after past (xs ++ p ∷ []) ≡ with_packet
-    (past_after past xs) p
+pub past_after-push : (past : List Segment) (xs : List Packet) (p : Packet)
+    → past_after past (xs ++ p ∷ []) ≡ with_packet (past_after past xs) p
 past_after-push past [] p = refl
 past_after-push past (x ∷ xs) p = past_after-push (with_packet past x) xs p
 

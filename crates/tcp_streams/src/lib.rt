@@ -3,9 +3,9 @@
 //! - [`connections`] says which SYNs open a connection, which segments belong to which opening (RFC 9293, 3.5), and
 //!   which are strays. `specs/Membership.antt` gives each segment its opening by one fold over the capture, and defines
 //!   connections and strays by that; `specs/code/Past.antt` says what the table keeps of it.
-//! - [`ConnectionWalk`] finds the same while the capture is read: each time that it advances
-//!   (`input_output::FrontWalk`), it makes packets of the new bytes and adds them to the table. Its `finish` has the
-//!   clauses of `packet_heads::PacketWalk::finish` and of [`connections`].
+//! - [`ConnectionWalk`] finds the same while the capture is read: it visits the packets of the bytes that it is fed
+//!   (`input_output::FrontWalk`, `packet_heads::PacketVisitor`), keeps them and adds them to the table. Its `finish`
+//!   has the clauses of `packet_heads::PacketWalk::finish` and of [`connections`].
 //! - [`assemble`] returns a side's bytes from its initial sequence number on (RFC 9293, 3.4), whatever order, loss or
 //!   repetition the capture shows. `IsFlow` of `specs/Flow.antt` is the longest covered run from offset 0: its bytes,
 //!   the record by which each byte was there, and a gap where bytes are missing before later ones. Of several records
@@ -40,6 +40,7 @@ mod side_flow;
 mod standings;
 mod started_side;
 mod table;
+mod taken;
 mod walk;
 pub mod worked_examples;
 

@@ -1,6 +1,6 @@
--- A walk over the front of a capture, behind which more bytes may come.
-use Rattle.std.specs.Prelude.{ℕ, List, ◌++◌}
+-- A walk that is fed the bytes of a capture while they are read.
+use Rattle.std.specs.Prelude.{ℕ, ◌≤◌, List, length, take}
 
--- the walk stands of this front, whatever bytes come behind it
-abbrev pub SurvivesAppends : {W : Type 0} → (List ℕ → W → Type 0) → List ℕ → W → Type 0
-SurvivesAppends stands front walk = (more : List ℕ) → stands (front ++ more) walk
+-- the walk stands for a front of these bytes
+abbrev pub StandsInFront : {W : Type 0} → (List ℕ → W → Type 0) → List ℕ → W → Type 0
+StandsInFront stands bytes walk = (n : ℕ) × (n ≤ length bytes) × stands (take n bytes) walk

@@ -25,6 +25,10 @@ packet_of segments mark = get_or (passed_over ++ map Carried segments) mark (Ski
 abbrev pub packets_of : List ℕ → List Segment → List Packet
 packets_of marks segments = map (packet_of segments) marks
 
+-- the packets that are held
+abbrev pub packets_held : MadePackets → List Packet
+packets_held made = packets_of made.marks made.segments
+
 -- each mark stands for something, and no segment is without a mark
 pub record IsSound (made : MadePackets) : Type 0 where
   pub known : All (λ (mark : ℕ). mark < 11 + length made.segments) made.marks

@@ -2,12 +2,9 @@
 use Rattle.std.specs.Prelude.{◌≡◌, ◌≢◌, ◌<◌, ◌^◌, ℕ, List, ◌++◌, Some, None, length, take}
 use Rattle.pcap_records.specs.Reading.{IsReading}
 use Rattle.pcap_records.specs.Refusal.{refusal}
-use Rattle.pcap_records.specs.declared.pcap_record.Record.{Record}
 use Rattle.pcap_records.specs.declared.pcap_record.Records.{Records}
 use Rattle.pcap_records.specs.declared.faults.PcapFault.{PcapFault}
 use Rattle.pcap_records.specs.declared.faults.PcapFault.TheVariants.{TooLarge}
-use Rattle.pcap_records.specs.declared.walk.RecordWalk.{RecordWalk}
-use Rattle.pcap_records.specs.code.Walk.{HasPassed}
 
 -- two readings of one capture have the same link type, the same records and the same cut record
 abbrev pub OneReading : Type 0
@@ -30,8 +27,3 @@ LargestIsTaken = (capture : List ℕ) → length capture ≡ 2147483647 → refu
 abbrev pub HeaderRefuses : Type 0
 HeaderRefuses = (header rest : List ℕ) (e : PcapFault) → length header ≡ 24 → refusal header ≡ Some e
     → refusal (header ++ rest) ≡ Some e
-
--- what a walk has passed of a front stands, whatever bytes come behind it
-abbrev pub MoreBytesKeepAWalk : Type 0
-MoreBytesKeepAWalk = (front more : List ℕ) (rows : List Record) (walk : RecordWalk) → HasPassed front rows walk
-    → HasPassed (front ++ more) rows walk

@@ -5,7 +5,7 @@ use Rattle.std.specs.List.{AllByRecursion}
 use Rattle.audit_terms.specs.declared.frames.Frame.{Frame}
 use Rattle.audit_terms.specs.declared.items.Change.{Change}
 use Rattle.audit_terms.specs.declared.stream_state.Stream.{Stream}
-use Rattle.audit_terms.specs.Frame.{is_ack, settings_in}
+use Rattle.audit_terms.specs.Frame.{is_ack, is_server_promise, needs_opening, settings_in}
 use Rattle.audit_terms.specs.Life.{is_opening}
 use Rattle.audit_terms.specs.InForce.{InForce}
 use Rattle.audit_terms.specs.Pass.{PassState, pass_start, next, said, full_from}
@@ -36,10 +36,15 @@ pub record BringsNothing (frame : Frame) : Type 0 where
   pub ack : is_ack frame.body ≡ false
   pub settings : settings_in frame.body ≡ []
 
+-- the frame moves no stream but by a change
+pub record MovesNoStream (frame : Frame) : Type 0 where
+  pub unneeded : needs_opening frame ≡ false
+  pub unpromised : is_server_promise frame ≡ false
+
 -- the initial windows of a change are in force, and all rows are moved: nothing of that is shown
 pub record IsBroughtInto (change : Option Change) (old new : QuietPass) : Type 0 where
   pub initial : new.initial ≡ initial_after change old.initial
-  pub moved : AreAllMoved 0 old.initial new.initial old.streams new.streams
+  pub moved : AreAllMoved old.initial new.initial old.streams new.streams
   pub connection : new.connection ≡ old.connection
   pub last : new.last ≡ old.last
   pub pending : new.pending ≡ old.pending

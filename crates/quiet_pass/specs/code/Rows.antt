@@ -1,7 +1,11 @@
 -- The rows of the streams that were opened. No public clause cites this.
-use Rattle.std.specs.Prelude.{◌≡◌, ◌≢◌, ℕ, ◌<◌, Bool, ◌==◌, false, if◌then◌else◌, List, [], ◌∷◌}
+use Rattle.std.specs.List.{AllByRecursion, flat_map}
+use Rattle.std.specs.Prelude.{◌≡◌, ◌≢◌, ℕ, ◌<◌, ◌%◌, ◌^◌, Bool, ◌==◌, true, false, if◌then◌else◌, List, [], ◌∷◌, ◌++◌}
+use Rattle.audit_terms.specs.Finding.{shown}
 use Rattle.audit_terms.specs.declared.sides.Sides.{Sides}
+use Rattle.audit_terms.specs.declared.findings.Finding.{Finding}
 use Rattle.audit_terms.specs.declared.frames.Frame.{Frame}
+use Rattle.audit_terms.specs.declared.items.Step.{Step}
 use Rattle.audit_terms.specs.declared.stream_state.Stream.{Stream}
 use Rattle.audit_terms.specs.Life.{is_opening}
 use Rattle.audit_terms.specs.Stream.{idle_stream, stream_said, stream_after}
@@ -60,14 +64,48 @@ pub record IsPut (stream : ℕ) (entry : Stream) (old new : List Row) : Type 0 w
   pub others : (other : ℕ) → other ≢ stream → entry_in new other ≡ entry_in old other
   pub rising : AreRising new
 
--- a row after the initial windows in force go from some to others, unless it is of one stream: nothing is shown of it
-pub record IsRowMoved (but : ℕ) (before after : Sides ℕ) (old new : Row) : Type 0 where
+-- a row after the initial windows in force go from some to others: nothing is shown of it
+pub record IsRowMoved (before after : Sides ℕ) (old new : Row) : Type 0 where
   pub same : new.stream ≡ old.stream
-  pub moved : old.stream ≢ but → IsEntryMoved before after (held old.standings) (held new.standings)
+  pub moved : IsEntryMoved before after (held old.standings) (held new.standings)
 
 -- each row after that
-abbrev pub AreMoved : (but : ℕ) → (before after : Sides ℕ) → (old new : List Row) → Type 0
-AreMoved but before after [] [] = Unit {0}
-AreMoved but before after (row ∷ rows) (next ∷ nexts) =
-    IsRowMoved but before after row next × AreMoved but before after rows nexts
-AreMoved but before after _ _ = ⊥
+abbrev pub AreMoved : (before after : Sides ℕ) → (old new : List Row) → Type 0
+AreMoved before after [] [] = Unit {0}
+AreMoved before after (row ∷ rows) (next ∷ nexts) =
+    IsRowMoved before after row next × AreMoved before after rows nexts
+AreMoved before after _ _ = ⊥
+
+-- what a step shows of the stream of a row
+abbrev pub row_said : Sides ℕ → Step → Row → List Finding
+row_said initial step row = stream_said row.stream initial (held row.standings) step
+
+-- a row after a step
+pub record IsRowStepped (initial : Sides ℕ) (step : Step) (old new : Row) : Type 0 where
+  pub same : new.stream ≡ old.stream
+  pub after : held new.standings ≡ stream_after old.stream initial (held old.standings) step
+
+-- what a step shows of a row was added; the row is as it is after the step, if it could be kept
+pub record IsRowSaid (initial : Sides ℕ) (step : Step) (kept : Bool) (old new : Row) (before after : List Finding)
+    : Type 0 where
+  pub said : shown false after ≡ shown false before ++ shown false (row_said initial step old)
+  pub stepped : kept ≡ true → IsRowStepped initial step old new
+
+-- each row after a step
+abbrev pub AreStepped : Sides ℕ → Step → (old new : List Row) → Type 0
+AreStepped initial step [] [] = Unit {0}
+AreStepped initial step (row ∷ rows) (next ∷ nexts) =
+    IsRowStepped initial step row next × AreStepped initial step rows nexts
+AreStepped initial step _ _ = ⊥
+
+-- the row is of a stream of a connection, odd or even as the remainder is
+pub record IsRowOfParity (remainder : ℕ) (row : Row) : Type 0 where
+  pub parity : row.stream % 2 ≡ remainder
+  pub small : row.stream < 2 ^ 31
+
+-- what a step shows of the streams of rows was added, and each row is as it is after the step, if all could be kept
+pub record AreRowsSaid (remainder : ℕ) (initial : Sides ℕ) (step : Step) (kept : Bool) (old new : List Row)
+    (before after : List Finding) : Type 0 where
+  pub said : shown false after ≡ shown false before ++ shown false (flat_map (row_said initial step) old)
+  pub own : AllByRecursion (IsRowOfParity remainder) old
+  pub stepped : kept ≡ true → AreStepped initial step old new

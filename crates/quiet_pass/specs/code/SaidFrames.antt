@@ -1,28 +1,34 @@
 -- A frame of which something is shown, and the machine after it.
-use Rattle.std.specs.List.{AllByRecursion, IsDistinct, list_any}
-use Rattle.std.specs.Prelude.{◌≡◌, ℕ, ◌<◌, ◌==◌, Bool, true, false, if◌then◌else◌, List, ◌++◌, Option, Some}
+use Rattle.std.specs.List.{AllByRecursion, IsDistinct, flat_map, list_any}
+use Rattle.std.specs.Prelude.{◌≡◌, ℕ, ◌<◌, ◌==◌, Bool, true, false, if◌then◌else◌, List, [], ◌++◌, Option, None, Some}
 use Rattle.audit_terms.specs.Connection.{connection_after, connection_said}
 use Rattle.audit_terms.specs.Finding.{shown, stops}
-use Rattle.audit_terms.specs.Frame.{is_server_promise}
+use Rattle.audit_terms.specs.Frame.{meets, promised_by}
 use Rattle.audit_terms.specs.LocalFault.{local_said}
-use Rattle.audit_terms.specs.Pass.{PassState, next, said}
+use Rattle.audit_terms.specs.Pass.{PassState, first_of, next, said}
 use Rattle.audit_terms.specs.Place.{place_number}
 use Rattle.audit_terms.specs.Side.{is_side}
 use Rattle.audit_terms.specs.Sides.{side_of}
-use Rattle.audit_terms.specs.Stream.{idle_stream}
+use Rattle.audit_terms.specs.Stream.{idle_stream, stream_after, stream_said}
 use Rattle.audit_terms.specs.code.LastFrame.{last_of}
-use Rattle.audit_terms.specs.code.runs.Orderly.{IsInRange}
-use Rattle.audit_terms.specs.code.runs.Streams.{initial_after}
+use Rattle.audit_terms.specs.code.runs.Streams.{frame_step, initial_after}
 use Rattle.audit_terms.specs.declared.connection_state.ConnectionState.{ConnectionState}
 use Rattle.audit_terms.specs.declared.findings.Finding.{Finding}
 use Rattle.audit_terms.specs.declared.frames.Frame.{Frame}
 use Rattle.audit_terms.specs.declared.items.Change.{Change}
+use Rattle.audit_terms.specs.declared.items.Step.{Step}
 use Rattle.audit_terms.specs.declared.sides.Side.TheVariants.{Client, Server}
+use Rattle.audit_terms.specs.declared.sides.Sides.{Sides}
 use Rattle.audit_terms.specs.declared.stream_state.Stream.{Stream}
 use Rattle.quiet_pass.specs.code.Connection.{as_item, connection_of}
-use Rattle.quiet_pass.specs.code.QuietPass.{AreNamed, BringsNothing, StandsFor}
+use Rattle.quiet_pass.specs.code.QuietPass.{AreNamed, StandsFor}
 use Rattle.quiet_pass.specs.code.Streams.{ArePut, IsChangeSaid}
+use Rattle.quiet_pass.specs.declared.kept_streams.Streams.{Streams}
 use Rattle.quiet_pass.specs.declared.passes.QuietPass.{QuietPass}
+
+-- the change of a frame, or none, by itself
+abbrev pub change_alone : Frame → Option Change → Step
+change_alone frame change = record { number = frame.number; frame = None; change = change }
 
 -- what a frame that brings a change, or none, shows by itself and of the connection, and the connection after it
 pub record IsConnectionSaid (machine : QuietPass) (frame : Frame) (opens : Bool) (change : Option Change)
@@ -32,11 +38,12 @@ pub record IsConnectionSaid (machine : QuietPass) (frame : Frame) (opens : Bool)
       ++ connection_said (connection_of machine.connection) (as_item frame opens change)
   pub next : connection ≡ connection_after (connection_of machine.connection) (as_item frame opens change)
 
--- the frame has neither settings nor a promise of the server, so that it moves the connection and its own stream alone
-pub record MovesOneStream (frame : Frame) : Type 0 where
-  pub range : IsInRange frame
-  pub plain : BringsNothing frame
-  pub unpromised : is_server_promise frame ≡ false
+-- what a frame shows of a stream that meets it was added, and this is the stream after it; stream 0 is none
+pub record IsEntrySaid (stream : ℕ) (initial : Sides ℕ) (frame : Frame) (old new : Stream) (before after : List Finding)
+    : Type 0 where
+  pub said : after ≡ before
+      ++ flat_map (λ one. stream_said one initial old (frame_step frame)) (first_of stream [])
+  pub next : 0 < stream → new ≡ stream_after stream initial old (frame_step frame)
 
 -- the machine keeps the connection as it is after the frame, which brings no settings
 pub record IsConnectionKept (frame : Frame) (connection : ConnectionState) (old new : QuietPass) : Type 0 where
@@ -46,26 +53,30 @@ pub record IsConnectionKept (frame : Frame) (connection : ConnectionState) (old 
   pub pending : new.pending ≡ old.pending
   pub initial : new.initial ≡ old.initial
 
--- the machine keeps the connection and the frame's stream as they are after the frame
-pub record IsKeptAfter (frame : Frame) (connection : ConnectionState) (entry : Stream) (old new : QuietPass)
+-- the machine keeps the connection as it is after the frame, and the streams that meet the frame
+pub record IsKeptAfter (frame : Frame) (connection : ConnectionState) (own promised : Stream) (old new : QuietPass)
     : Type 0 where
   pub rest : IsConnectionKept frame connection old new
-  pub streams : ArePut frame.stream entry old.streams new.streams
+  pub mid : Streams
+  pub one : ArePut frame.stream own old.streams mid
+  pub other : ArePut (promised_by frame) promised mid new.streams
 
--- the initial windows of a change are in force, and what that shows of one stream was added
-pub record IsBroughtSaying (frame : Frame) (change : Option Change) (old new : QuietPass) (before after : List Finding)
-    : Type 0 where
+-- the initial windows of a change are in force, what that shows was added, and all streams are moved, if all could be
+-- kept
+pub record IsBroughtSaying (frame : Frame) (change : Option Change) (kept : Bool) (old new : QuietPass)
+    (before after : List Finding) : Type 0 where
   pub initial : new.initial ≡ initial_after change old.initial
-  pub streams : IsChangeSaid old.initial frame change old.streams new.streams before after
+  pub streams : IsChangeSaid old.initial (change_alone frame change) kept old.streams new.streams before after
   pub connection : new.connection ≡ old.connection
   pub last : new.last ≡ old.last
   pub pending : new.pending ≡ old.pending
 
--- streams other than 0, each once, and among them that of the frame, and each that is not as at the start
+-- streams other than 0, each once, and among them those that meet the frame, and each that is not as at the start
 pub record HaveOwn (state : PassState) (frame : Frame) (streams : List ℕ) : Type 0 where
   pub named : AreNamed streams
   pub once : IsDistinct ◌==◌ streams
-  pub own : 0 < frame.stream → list_any (λ other. other == frame.stream) streams ≡ true
+  pub own : (stream : ℕ) → 0 < stream → meets stream frame ≡ true
+      → list_any (λ other. other == stream) streams ≡ true
   pub live : (stream : ℕ) → 0 < stream → list_any (λ other. other == stream) streams ≡ false
       → state.streams stream ≡ idle_stream
 

@@ -1,5 +1,7 @@
 -- All streams, as they are kept in rows. No public clause cites this.
-use Rattle.std.specs.Prelude.{◌≡◌, ◌≢◌, ℕ, ◌%◌, ◌<◌, ◌^◌, Bool, false, if◌then◌else◌, List, ◌++◌, Option, Some, None}
+use Rattle.std.specs.List.{AllByRecursion, IsDistinct, flat_map, list_any}
+use Rattle.std.specs.Prelude.{◌≡◌, ℕ, ◌%◌, ◌<◌, ◌^◌, ◌==◌, Bool, true, false, if◌then◌else◌, List, [], ◌++◌, Option}
+use Rattle.std.specs.Prelude.{Some, None}
 use Rattle.audit_terms.specs.declared.sides.Sides.{Sides}
 use Rattle.audit_terms.specs.declared.findings.Finding.{Finding}
 use Rattle.audit_terms.specs.declared.frames.Frame.{Frame}
@@ -48,24 +50,26 @@ pub record AreMetOn (initial : Sides ℕ) (frame : Frame) (opens : Bool) (stream
   pub opening : is_opening frame.stream (streams frame.stream).life frame ≡ opens
   pub met : AreMet initial frame None streams kept
 
--- all rows but those of one stream after the initial windows in force go from some to others
-pub record AreAllMoved (but : ℕ) (before after : Sides ℕ) (old new : Streams) : Type 0 where
-  pub opened : AreMoved but before after old.opened.items new.opened.items
-  pub promised : AreMoved but before after old.promised.items new.promised.items
+-- all rows after the initial windows in force go from some to others
+pub record AreAllMoved (before after : Sides ℕ) (old new : Streams) : Type 0 where
+  pub opened : AreMoved before after old.opened.items new.opened.items
+  pub promised : AreMoved before after old.promised.items new.promised.items
 
--- the streams after a frame that meets none of them and brings a change, or none: of one alone something may be shown,
--- and that was added
-pub record IsChangeSaid (initial : Sides ℕ) (frame : Frame) (change : Option Change) (old new : Streams)
+-- what a step without a frame shows of some streams was added, it shows nothing of others, and the streams are as they
+-- are after the step, if all could be kept
+pub record IsChangeSaid (initial : Sides ℕ) (step : Step) (kept : Bool) (old new : Streams)
     (before after : List Finding) : Type 0 where
-  pub stream : ℕ
-  pub some : 0 < stream
-  pub small : stream < 2 ^ 31
+  pub some : List ℕ
+  pub small : AllByRecursion (λ stream. stream < 2 ^ 31) some
   pub said : (streams : ℕ → Stream) → AreStreams streams old → shown false after ≡ shown false before
-      ++ shown false (stream_said stream initial (streams stream) (as_step frame change stream))
-  pub others : (streams : ℕ → Stream) → AreStreams streams old → (other : ℕ) → 0 < other → other ≢ stream
-      → AreQuiet (stream_said other initial (streams other) (as_step frame change other))
-  pub met : (streams : ℕ → Stream) → AreStreams streams old
-      → AreStreams (λ other. stream_after other initial (streams other) (as_step frame change other)) new
+      ++ shown false (flat_map (λ stream. stream_said stream initial (streams stream) step) some)
+  pub named : (streams : ℕ → Stream) → AreStreams streams old → AllByRecursion (λ stream. 0 < stream) some
+  pub once : (streams : ℕ → Stream) → AreStreams streams old → IsDistinct ◌==◌ some
+  pub others : (streams : ℕ → Stream) → AreStreams streams old → (other : ℕ) → 0 < other
+      → list_any (λ one. one == other) some ≡ false
+      → shown false (stream_said other initial (streams other) step) ≡ []
+  pub met : kept ≡ true → (streams : ℕ → Stream) → AreStreams streams old
+      → AreStreams (λ stream. stream_after stream initial (streams stream) step) new
 
 -- this is a stream now, and no other stream changes
 pub record ArePut (stream : ℕ) (entry : Stream) (old new : Streams) : Type 0 where

@@ -6,6 +6,7 @@ use Rattle.std.specs.List.{list_any}
 use Rattle.std.specs.Option.{option_or}
 use Rattle.packet_heads.specs.code.Order.{AreNumberedFrom}
 use Rattle.packet_heads.specs.declared.packets.Packet.{Packet}
+use Rattle.packet_heads.specs.declared.packets.Packet.TheVariants.{Segment as Carried}
 use Rattle.packet_heads.specs.declared.packets.Segment.{Segment}
 use Rattle.tcp_streams.specs.Membership.{AreConnections, strays_of}
 use Rattle.tcp_streams.specs.code.Orderly.{AreMembers}
@@ -98,6 +99,11 @@ IsTableOf past t = IsShown past (standing_of t.standings) (map membership t.open
 abbrev pub RecordsDescend : ℕ → List Segment → Type 0
 RecordsDescend n [] = Unit {0}
 RecordsDescend n (s ∷ earlier) = (s.rec < n) × RecordsDescend s.rec earlier
+
+-- the packet, if it is a segment, comes after those of the past
+abbrev pub ComesBehind : List Segment → Packet → Type 0
+ComesBehind past (Carried s) = RecordsDescend s.rec past
+ComesBehind past _ = Unit {0}
 
 -- the table shows some past, with room for one more segment to be counted
 abbrev pub HasPast : Table → Type 0

@@ -1,16 +1,25 @@
 -- The packets of a front of a capture and the connections that they show, behind which more bytes may come.
-use Rattle.std.specs.Prelude.{ℕ, List}
-use Rattle.input_output.specs.code.Front.{SurvivesAppends}
-use Rattle.packet_heads.specs.code.Walk.{HasMade, made_by}
+use Rattle.std.specs.Prelude.{◌≡◌, ◌+◌, ℕ, List, length}
+use Rattle.input_output.specs.code.Front.{StandsInFront}
+use Rattle.packet_heads.specs.code.Handed.{Handed, packets_among}
+use Rattle.packet_heads.specs.code.Marks.{IsSound, packets_held}
+use Rattle.packet_heads.specs.code.Walk.{HasMade}
 use Rattle.tcp_streams.specs.code.Past.{past_of}
-use Rattle.tcp_streams.specs.code.Table.{IsTableOf}
+use Rattle.tcp_streams.specs.code.Table.{IsTableOf, RecordsDescend}
+use Rattle.tcp_streams.specs.declared.taken.Taken.{Taken}
 use Rattle.tcp_streams.specs.declared.walk.ConnectionWalk.{ConnectionWalk}
 
--- a walk that has made the packets of some records of a capture with these bytes, and taken all of them into its table
-pub record HasTakenIn (capture : List ℕ) (walk : ConnectionWalk) : Type 0 where
-  pub made : HasMade capture walk.packets
-  pub table : IsTableOf (past_of (made_by walk.packets)) walk.table
+-- these packets were kept, and taken into the table
+pub record HasTaken (handed : List Handed) (taken : Taken) : Type 0 where
+  pub kept : packets_held taken.packets ≡ packets_among handed
+  pub sound : IsSound taken.packets
+  pub table : IsTableOf (past_of (packets_among handed)) taken.table
+  pub descend : RecordsDescend (length handed + 1) (past_of (packets_among handed))
 
--- the same of a front, whatever bytes come behind it
+-- a walk that was fed the front of a capture, and has kept its packets and taken them into its table
+abbrev pub HasTakenIn : List ℕ → ConnectionWalk → Type 0
+HasTakenIn front walk = HasMade HasTaken front walk.packets
+
+-- the same of a front of these bytes
 abbrev pub IsConnectionWalkIn : List ℕ → ConnectionWalk → Type 0
-IsConnectionWalkIn = SurvivesAppends HasTakenIn
+IsConnectionWalkIn = StandsInFront HasTakenIn

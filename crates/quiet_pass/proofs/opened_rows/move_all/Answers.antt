@@ -25,5 +25,5 @@ loop-at-preserved c =
 pub returns : goal.returns
 returns c =
     let all = c.loop-at.invariant in
-    moved-each c.args.but c.args.before.now c.args.after.now c.args.rows.now.items c.loop-at.rows.items all.long
+    moved-each c.args.before.now c.args.after.now c.args.rows.now.items c.loop-at.rows.items all.long
     (λ at d l. all.moved at d (omega (arith, l, c.loop-at-test.false, c.len-at-end.ensures, c.args.rows.now.ok.0)))

@@ -6,6 +6,6 @@ use Rattle.quiet_pass.proofs.opened_rows.move_all.Given as goal
 abbrev pub invariant-loop-at : goal.invariant-loop-at
 invariant-loop-at l = let old = l.fn.rows.items in record {
   long : length l.rows.items ≡ length old;
-  moved : (k : ℕ) (d : Row) → k < l.at → IsRowMoved l.but l.before l.after (get_or old k d) (get_or l.rows.items k d);
+  moved : (k : ℕ) (d : Row) → k < l.at → IsRowMoved l.before l.after (get_or old k d) (get_or l.rows.items k d);
   same : (k : ℕ) (d : Row) → l.at ≤ k → get_or l.rows.items k d ≡ get_or old k d;
 }

@@ -4,8 +4,8 @@ use Rattle.input_output.specs.Chunks.{joined}
 use Rattle.input_output.proofs.Bytes.{full_size}
 use Rattle.input_output.proofs.kept_bytes.FullChunks.walk.Goals as goal
 
-pub advance-walked-requires-clause-short : goal.advance-walked-requires-clause-short
-advance-walked-requires-clause-short g c =
+pub feed_rest-walked-requires-clause-short : goal.feed_rest-walked-requires-clause-short
+feed_rest-walked-requires-clause-short g c =
     let full = c.self.inside.chunks in
     omega (
       arith,

@@ -1,15 +1,15 @@
-use Rattle.packet_heads.proofs.Walking.{in_order, packets_of_walk, stands_now}
-use Rattle.std.proofs.Common.{arith}
+use Rattle.std.proofs.Common.{subst}
+use Rattle.pcap_records.specs.code.Walk.{AreAll}
+use Rattle.packet_heads.specs.code.Walk.{HasDecoded}
+use Rattle.packet_heads.proofs.Walking.{has_met}
 use Rattle.packet_heads.proofs.walk.PacketWalk.completed.Goals as goal
 
-pub go_on-requires-clause-walk : goal.go_on-requires-clause-walk
-go_on-requires-clause-walk c = stands_now c.args.capture.now c.args.self c.requires.walk
-
-pub returns-clause-packets : goal.returns-clause-packets
-returns-clause-packets c =
-    packets_of_walk c.args.alloc c.args.capture.now c.go_on.new.self c.cut-cut.result c.in_ok-go_on.ensures.made
-    c.in_ok-go_on.ensures.through c.cut-cut.ensures c.requires.short
-
-pub returns-clause-order : goal.returns-clause-order
-returns-clause-order c =
-    in_order c.args.capture.now c.go_on.new.self c.in_ok-go_on.ensures.made (omega (arith, c.requires.short))
+pub returns : goal.returns
+returns g c =
+    let after = g.V.PacketVisitor.after in
+    let walk = c.feed_rest.new.walk in
+    let cut = c.cut-cut.result in
+    let all = subst (λ stage. AreAll (HasDecoded after) walk.records stage.count cut) c.visitor.ensures
+    c.cut-cut.ensures in
+    rw c.into_visitor-visitor.ensures
+    (has_met after c.args.alloc c.args.capture.now walk cut c.in_ok-feed_rest.ensures.whole c.requires.short all)

@@ -1,14 +1,12 @@
-use Rattle.stream_credit.proofs.Words.{◌≡◌, arith, OnTrue_at, OnTrue_from, IfOk-weaker}
+use Rattle.stream_credit.proofs.Words.{◌≡◌, arith}
 use Rattle.std.proofs.Common.{◌%◌}
 use Rattle.quiet_pass.proofs.StreamLemmas.{met-promise}
 use Rattle.quiet_pass.proofs.kept_streams.Streams.promise.Goals as goal
 
-pub returns : goal.returns
-returns c =
+pub returns-clause-quiet : goal.returns-clause-quiet
+returns-clause-quiet c = λ streams h.
     let odd : c.args.frame.now.stream % 2 ≡ 1 = omega (arith, c.if-frame-eq0.false) in
-    IfOk-weaker c.open.result _ _
-    (λ opened was. OnTrue_from opened _ (λ quiet. λ streams h.
     met-promise c.args.initial.now c.args.frame.now c.args.self.now _ streams h c.requires odd
-    (λ rising. c.if-not-meet_opened.ensures rising c.args.initial.now)
-    (rw c.promised.ensures at (OnTrue_at quiet was))))
-    c.open.ensures.quiet
+    (λ rising. c.if-not-meet_opened.ensures.quiet rising c.args.initial.now)
+    (λ rising. rw (c.in_ok-push.ensures.items, ← c.promised-promised.ensures)
+    ((rw c.as_slice.ensures.value at (c.new_row.ensures c.in-Some.row c.in-Some.is)) rising))
