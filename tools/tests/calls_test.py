@@ -67,9 +67,9 @@ class Calls(unittest.TestCase):
 
     def test_random_bytes(self) -> None:
         """They are drawn once, and decide where pairs and streams stand in a table, and so how fast they are found."""
-        for name, status in (("one_server_below", 0), ("shuffled_streams", 1)):
+        for name, workers, status in (("one_server_below", 1, 0), ("shuffled_streams", 2, 1)):
             with self.subTest(name):
-                words = ["--workers=1", self.capture(name)]
+                words = [f"--workers={workers}", self.capture(name)]
                 ran = self.counter.run(words)
                 self.assertEqual((status, b"", 1), (ran.status, ran.said, ran.counts.drawn))
                 for key in ("1", "2", ""):

@@ -76,7 +76,7 @@ def loud_stream(quarters: int) -> Capture:
 
 
 def shuffled_streams(quarters: int) -> Capture:
-    """20,010 streams that are met out of order, after a finding, so that a table holds them."""
+    """20,010 streams that are met out of order, after a finding: in rounds of several workers a table holds them."""
     capture = opened(UNMATCHED)
     # These are primes, so each number comes once.
     prime = {1: 5_003, 4: 20_011, 16: 80_021}[quarters]
