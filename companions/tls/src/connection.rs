@@ -4,16 +4,20 @@
 //! whose keys depend on something that has not come yet waits, and with it all later plaintext, so that this keeps the
 //! order of completion.
 
-use std::collections::VecDeque;
+mod joined;
+mod queue;
 
 use captures::{Arrival, Flow};
 
 use crate::handshake::{Handshake, Stage};
 use crate::key_log::Keys;
+use crate::middle::Middle;
 use crate::reason::Reason;
 use crate::records::{Header, Records};
+use crate::search::Search;
 use crate::sessions::Sessions;
 use crate::{CLIENT, SERVER};
+use queue::Queue;
 
 const MOST_WAITING: usize = 64 << 20;
 
@@ -24,6 +28,8 @@ pub struct Shared {
     /// Whether more keys may come in the capture.
     pub more_keys: bool,
     pub sessions: Sessions,
+    /// Of what opens connections whose hellos were not seen.
+    pub search: Search,
     /// Where the content of a record stands while it is handed on.
     room: Vec<u8>,
 }
@@ -39,6 +45,8 @@ pub trait Emit {
 pub struct Side {
     flow: Flow,
     records: Records,
+    /// Bytes of a record that the capture begins within.
+    skipped: usize,
     end: Option<(Reason, Arrival)>,
 }
 
@@ -54,6 +62,11 @@ impl Side {
         self.records.held()
     }
 
+    /// How many bytes stand before the first border of records, of a connection that is read from its middle on.
+    pub fn skipped(&self) -> usize {
+        self.skipped
+    }
+
     /// Why reading ended before the bytes did, and at which packet.
     #[inline]
     pub fn end(&self) -> Option<(Reason, Arrival)> {
@@ -61,61 +74,12 @@ impl Side {
     }
 }
 
-/// What waits, of both sides.
-#[derive(Default)]
-struct Queue {
-    records: VecDeque<Waiting>,
-    /// Of each side, the numbers of the records that were not read yet. The first record in the queue has this number.
-    unread: [VecDeque<u64>; 2],
-    first: u64,
-    bytes: usize,
-}
-
-/// A record in its place, and its content once it is known.
-struct Waiting {
-    side: usize,
-    arrival: Arrival,
-    header: Header,
-    body: Vec<u8>,
-    size: usize,
-    content: Option<Vec<u8>>,
-}
-
-impl Queue {
-    fn add(&mut self, side: usize, arrival: Arrival, header: &Header, body: &[u8]) {
-        self.unread[side].push_back(self.first + self.records.len() as u64);
-        self.bytes += body.len();
-        let (header, size, body) = (*header, body.len(), body.to_vec());
-        self.records.push_back(Waiting { side, arrival, header, body, size, content: None });
-    }
-
-    fn get_mut(&mut self, number: u64) -> Option<&mut Waiting> {
-        self.records.get_mut(usize::try_from(number.checked_sub(self.first)?).ok()?)
-    }
-
-    /// The first record, where it is read.
-    fn take_read(&mut self) -> Option<Waiting> {
-        self.records.front()?.content.as_ref()?;
-        let first = self.records.pop_front()?;
-        self.first += 1;
-        self.bytes -= first.size;
-        Some(first)
-    }
-
-    /// A side ends, and with it what of it was not read.
-    fn end(&mut self, side: usize) {
-        for number in std::mem::take(&mut self.unread[side]) {
-            if let Some(waiting) = self.get_mut(number) {
-                waiting.content = Some(Vec::new());
-            }
-        }
-    }
-}
-
 /// Takes the segments of both sides, and emits plaintext.
 pub struct Connection {
     handshake: Handshake,
     sides: [Side; 2],
+    /// What waits of a connection that is read from its middle on; none where both sides are settled.
+    middle: Option<Box<Middle>>,
     /// None where nothing waits.
     queue: Option<Box<Queue>>,
     refused: Option<Reason>,
@@ -128,6 +92,7 @@ impl Connection {
         Connection {
             handshake: Handshake::new(number, shared.more_keys),
             sides: Default::default(),
+            middle: None,
             queue: None,
             refused: None,
             count: 0,
@@ -157,7 +122,7 @@ impl Connection {
 
     #[inline]
     pub fn is_waiting(&self) -> bool {
-        self.queue.is_some()
+        self.queue.is_some() || self.middle.is_some()
     }
 
     /// Takes bytes at an offset of a side.
@@ -178,8 +143,19 @@ impl Connection {
         if data.is_empty() {
             return;
         }
+        match &mut self.middle {
+            Some(middle) if middle.waits(index) => {
+                middle.add(index, &data, arrival);
+                self.settle(shared, out, false);
+            }
+            _ => self.cut(shared, out, index, &data, arrival),
+        }
+    }
+
+    /// Cuts the next bytes of a side into records.
+    fn cut(&mut self, shared: &mut Shared, out: &mut dyn Emit, index: usize, data: &[u8], arrival: Arrival) {
         let mut records = std::mem::take(&mut self.sides[index].records);
-        records.add(&data, |header, body| self.record(shared, out, index, arrival, header, body));
+        records.add(data, |header, body| self.record(shared, out, index, arrival, header, body));
         if self.refused.is_none() {
             let is_broken = records.is_broken();
             self.sides[index].records = records;
@@ -300,7 +276,7 @@ impl Connection {
 
     fn refuse(&mut self, why: Reason) {
         self.refused = Some(why);
-        self.queue = None;
+        (self.queue, self.middle) = (None, None);
         for side in &mut self.sides {
             (side.flow, side.records) = Default::default();
         }
@@ -312,6 +288,10 @@ impl Connection {
             return;
         }
         self.handshake.expect_no_key();
+        self.settle(shared, out, true);
+        if matches!(self.refused, Some(Reason::Tail(_))) && known.is_snapped {
+            self.refused = Some(Reason::Snapped);
+        }
         self.advance(shared, out);
         for index in [CLIENT, SERVER] {
             let first = self.queue.as_mut().and_then(|queue| {
@@ -324,7 +304,7 @@ impl Connection {
             }
         }
         self.advance(shared, out);
-        if self.refused.is_none() && self.count == 0 {
+        if self.refused.is_none() && self.count == 0 && !self.handshake.is_joined() {
             self.refused = self.why_nothing(known);
         }
     }

@@ -6,6 +6,7 @@
 //! What a record's reading depends on (version, suite, both randoms) is settled by the ServerHello that is taken, and
 //! nothing in the clear changes it after that.
 
+mod joined;
 mod protected;
 
 use crate::connection::Shared;
@@ -39,6 +40,8 @@ struct Half {
     messages: Messages,
     opener: Option<Box<Opener>>,
     secret: Vec<u8>,
+    /// Key updates before this secret.
+    updates: u32,
     /// Records, with the keys in use.
     opened: u64,
     /// Passes over early data that was rejected.
@@ -54,6 +57,10 @@ const NOTHING: Content = Ok(Some(0));
 #[derive(Default)]
 pub struct Handshake {
     number: u64,
+    /// The client's random, where a secret was found without the hellos.
+    joined: Option<Random>,
+    /// The client's side is the one with the index of servers.
+    is_swapped: bool,
     more_keys: bool,
     waits_for_key: bool,
     halves: [Half; 2],
@@ -123,7 +130,7 @@ impl Handshake {
 
     /// The client's random, by which secrets are known.
     pub fn client_random(&self) -> Option<Random> {
-        self.client_hello.as_ref().map(|hello| hello.random)
+        self.client_hello.as_ref().map(|hello| hello.random).or(self.joined)
     }
 
     /// From here on no further key comes.
@@ -134,7 +141,7 @@ impl Handshake {
     /// Whether a side could be read though the other one cannot, for want of its secrets.
     pub fn can_read(&self, side: usize, keys: &Keys) -> bool {
         let random = self.client_random().filter(|_| self.version == Some(TLS_1_3));
-        random.map_or(false, |random| keys.has_of_side(&random, side))
+        random.map_or(false, |random| keys.has_of_side(&random, self.role(side)))
     }
 
     pub fn read(
@@ -298,7 +305,7 @@ impl Handshake {
             self.rejected_records += 1;
             return NOTHING;
         }
-        let random = match (self.client_random(), self.server_random) {
+        let random = match (self.client_random(), self.suite) {
             (Some(random), Some(_)) => random,
             _ => return Ok(None),
         };
@@ -311,10 +318,11 @@ impl Handshake {
                 Some(first) => self.halves[side].stage = first,
             }
         }
+        let role = self.role(side);
         let label = match self.stage(side) {
             Stage::Early => Label::Early,
-            Stage::Traffic => OF_SIDES[side][1],
-            Stage::First | Stage::Handshake => OF_SIDES[side][0],
+            Stage::Traffic => OF_SIDES[role][1],
+            Stage::First | Stage::Handshake => OF_SIDES[role][0],
         };
         match self.secret(shared, &random, label)? {
             None => Ok(None),

@@ -98,6 +98,12 @@ impl Keys {
         Some(&line.secret[..usize::from(line.length)])
     }
 
+    /// All secrets with one of these labels: the random, the label, and the secret, in the order in which they came.
+    pub fn with<'a>(&'a self, labels: &'a [Label]) -> impl Iterator<Item = (&'a Random, Label, &'a [u8])> {
+        let lines = self.lines.iter().filter(move |line| labels.contains(&line.label));
+        lines.map(|line| (&line.random, line.label, &line.secret[..usize::from(line.length)]))
+    }
+
     /// Whether a secret of one side is known.
     pub fn has_of_side(&self, random: &Random, side: usize) -> bool {
         OF_SIDES[side].iter().any(|label| self.find(random, *label).is_some())

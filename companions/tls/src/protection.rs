@@ -72,7 +72,7 @@ thread_local! {
     static FETCHED: RefCell<Vec<(&'static str, Rc<Cipher>)>> = RefCell::default();
 }
 
-fn fetched(name: &'static str) -> Result<Rc<Cipher>, ErrorStack> {
+pub fn fetched(name: &'static str) -> Result<Rc<Cipher>, ErrorStack> {
     FETCHED.with(|fetched| {
         let mut fetched = fetched.borrow_mut();
         if let Some((_, cipher)) = fetched.iter().find(|(known, _)| *known == name) {
@@ -117,6 +117,16 @@ impl Opener {
         Ok(Opener { sequence: 0, way: way.map_err(|_| Reason::CipherSuite(suite.code))? })
     }
 
+    /// Of the next record.
+    pub fn number(&self) -> u64 {
+        self.sequence
+    }
+
+    /// Goes on with the record of this number.
+    pub fn go_to(&mut self, number: u64) {
+        self.sequence = number;
+    }
+
     /// Opens a record, of its header as it stood and the rest of it. The content stands at the front of the room, which
     /// grows as it has to; the answer is its length.
     pub fn open(&mut self, header: &Header, body: &[u8], room: &mut Vec<u8>) -> Result<usize, DoesNotOpen> {
@@ -134,21 +144,20 @@ impl Opener {
 
 impl Aead {
     fn new(suite: &Suite, keys: &TrafficKeys, nonce: Nonce) -> Result<Aead, ErrorStack> {
-        let tag_length = if suite.mode == Mode::Ccm8 { 8 } else { 16 };
         let is_ccm = matches!(suite.mode, Mode::Ccm | Mode::Ccm8);
         let mut context = CipherCtx::new()?;
         let cipher = fetched(name_of(suite))?;
         if is_ccm {
             context.decrypt_init(Some(&cipher), None, None)?;
             context.set_iv_length(NONCE_LENGTH)?;
-            context.set_tag_length(tag_length)?;
+            context.set_tag_length(suite.tag_length())?;
             context.decrypt_init(None, Some(&keys.key), None)?;
         } else {
             context.decrypt_init(Some(&cipher), Some(&keys.key), None)?;
         }
         let mut iv = [0; NONCE_LENGTH];
         iv[..keys.iv.len()].copy_from_slice(&keys.iv);
-        Ok(Aead { context, nonce, is_ccm, tag_length, iv })
+        Ok(Aead { context, nonce, is_ccm, tag_length: suite.tag_length(), iv })
     }
 
     fn open(&mut self, sequence: u64, header: &Header, body: &[u8], room: &mut [u8]) -> Result<usize, DoesNotOpen> {
@@ -162,8 +171,7 @@ impl Aead {
             nonce[NONCE_LENGTH - EXPLICIT_NONCE_LENGTH..].copy_from_slice(explicit);
             body = rest;
         } else {
-            let numbered = &mut nonce[NONCE_LENGTH - 8..];
-            numbered.iter_mut().zip(sequence.to_be_bytes()).for_each(|(byte, of_number)| *byte ^= of_number);
+            nonce = numbered(&self.iv, sequence);
         }
         let length = body.len().checked_sub(self.tag_length).ok_or(DoesNotOpen)?;
         let (sealed, tag) = body.split_at(length);
@@ -182,6 +190,14 @@ impl Aead {
         }
         Ok(length)
     }
+}
+
+/// The nonce of a record of this number: it stands in the last 8 bytes of the IV (RFC 8446, 5.3; RFC 7905, 2).
+#[inline]
+pub fn numbered(iv: &[u8; NONCE_LENGTH], number: u64) -> [u8; NONCE_LENGTH] {
+    let mut nonce = *iv;
+    nonce[NONCE_LENGTH - 8..].iter_mut().zip(number.to_be_bytes()).for_each(|(byte, of_number)| *byte ^= of_number);
+    nonce
 }
 
 impl Blocks {

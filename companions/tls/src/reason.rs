@@ -19,6 +19,12 @@ pub enum Reason {
     Gap(u32),
     Tail(usize),
     Alert(u8),
+    /// TLS 1.2 without its hellos.
+    NoServerRandom,
+    /// No secret opens a record with a number below this one.
+    SearchedNumbers(u64),
+    /// The time for searches is over.
+    SearchedSeconds(u64),
 }
 
 impl fmt::Display for Reason {
@@ -39,6 +45,9 @@ impl fmt::Display for Reason {
             Reason::Gap(offset) => write!(out, "gap {offset}"),
             Reason::Tail(length) => write!(out, "tail {length}"),
             Reason::Alert(alert) => write!(out, "alert {alert}"),
+            Reason::NoServerRandom => out.write_str("no-server-random"),
+            Reason::SearchedNumbers(numbers) => write!(out, "searched-numbers {numbers}"),
+            Reason::SearchedSeconds(seconds) => write!(out, "searched-seconds {seconds}"),
         }
     }
 }

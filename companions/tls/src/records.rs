@@ -6,7 +6,7 @@ pub const HANDSHAKE: u8 = 22;
 pub const APPLICATION_DATA: u8 = 23;
 const HEARTBEAT: u8 = 24;
 pub const HEADER_LENGTH: usize = 5;
-const LONGEST_BODY: usize = (1 << 14) + 2048;
+pub const LONGEST_BODY: usize = (1 << 14) + 2048;
 
 pub type Header = [u8; HEADER_LENGTH];
 
@@ -15,6 +15,35 @@ pub fn looks_like_tls(data: &[u8], alert_may_come: bool) -> bool {
     let kind = data.first().copied();
     let is_kind = kind == Some(HANDSHAKE) || alert_may_come && kind == Some(ALERT);
     is_kind && (data.len() < 2 || data[1] == 3)
+}
+
+/// What stands at the front of some bytes.
+pub enum Front<'a> {
+    /// The header of a whole record, and the rest of it.
+    Record(Header, &'a [u8]),
+    /// A part of one; so many bytes before there is more to see.
+    Cut(usize),
+    /// No record.
+    Other,
+}
+
+#[inline]
+pub fn front(data: &[u8]) -> Front<'_> {
+    let (header, rest) = match data {
+        [kind, major, minor, high, low, rest @ ..] => ([*kind, *major, *minor, *high, *low], rest),
+        _ => return Front::Cut(HEADER_LENGTH),
+    };
+    let length = body_length(&header);
+    if header[1] != 3 || !(CHANGE_CIPHER_SPEC..=HEARTBEAT).contains(&header[0]) || length > LONGEST_BODY {
+        return Front::Other;
+    }
+    rest.get(..length).map_or(Front::Cut(HEADER_LENGTH + length), |body| Front::Record(header, body))
+}
+
+/// How many bytes a record has behind its header.
+#[inline]
+pub fn body_length(header: &Header) -> usize {
+    usize::from(u16::from_be_bytes([header[3], header[4]]))
 }
 
 /// Takes bytes in order, and gives the records that are whole.
@@ -59,23 +88,22 @@ impl Records {
     /// Gives the whole records at the front, and answers how many bytes they have.
     fn cut(&mut self, data: &[u8], give: &mut impl FnMut(&Header, &[u8])) -> usize {
         let mut at = 0;
-        self.needed = HEADER_LENGTH;
-        while let Some(&[kind, major, minor, high, low]) = data.get(at..at + HEADER_LENGTH) {
-            let length = usize::from(u16::from_be_bytes([high, low]));
-            if major != 3 || !(CHANGE_CIPHER_SPEC..=HEARTBEAT).contains(&kind) || length > LONGEST_BODY {
-                self.is_broken = true;
-                break;
-            }
-            let begin = at + HEADER_LENGTH;
-            match data.get(begin..begin + length) {
-                None => {
-                    self.needed = HEADER_LENGTH + length;
-                    break;
+        loop {
+            match front(&data[at..]) {
+                Front::Record(header, body) => {
+                    give(&header, body);
+                    at += HEADER_LENGTH + body.len();
                 }
-                Some(body) => give(&[kind, major, minor, high, low], body),
+                Front::Cut(needed) => {
+                    self.needed = needed;
+                    return at;
+                }
+                Front::Other => {
+                    self.needed = HEADER_LENGTH;
+                    self.is_broken = true;
+                    return at;
+                }
             }
-            at = begin + length;
         }
-        at
     }
 }

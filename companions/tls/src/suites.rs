@@ -40,9 +40,26 @@ pub struct Suite {
 }
 
 impl Suite {
+    /// Of an AEAD.
+    pub(crate) fn tag_length(&self) -> usize {
+        if self.mode == Mode::Ccm8 {
+            8
+        } else {
+            16
+        }
+    }
+
     pub(crate) fn mac_length(&self) -> usize {
         self.mac.map_or(0, Hash::length)
     }
+}
+
+/// The suites of TLS 1.3 whose secrets have this length (RFC 8446, B.4), the most frequent first.
+pub fn suites_of_secret(length: usize) -> impl Iterator<Item = Suite> {
+    [0x1302, 0x1301, 0x1303, 0x1304, 0x1305]
+        .into_iter()
+        .filter_map(suite_of)
+        .filter(move |suite| suite.hash.length() == length)
 }
 
 /// The suite of a code, where it can be opened.

@@ -79,7 +79,7 @@ impl Handshake {
     /// A protected handshake message of TLS 1.3 that changes keys or says what is chosen (RFC 8446, 4).
     fn meet_message(&mut self, side: usize, kind: u8, body: &[u8]) -> Result<(), Reason> {
         match (kind, self.stage(side)) {
-            (hellos::ENCRYPTED_EXTENSIONS, _) if side == SERVER => {
+            (hellos::ENCRYPTED_EXTENSIONS, _) if self.role(side) == SERVER => {
                 let extensions = hellos::encrypted_extensions(body)?;
                 self.protocol = hellos::protocol_of(&extensions)?;
                 self.accepts_early_data = Some(extensions.has(hellos::EARLY_DATA));
@@ -89,6 +89,7 @@ impl Handshake {
             (hellos::KEY_UPDATE, Stage::Traffic) => {
                 let suite = self.suite.ok_or(Reason::NotTls)?;
                 let secret = next_secret(&suite, &self.halves[side].secret);
+                self.halves[side].updates += 1;
                 self.protect(side, secret)?;
             }
             _ => {}
