@@ -363,7 +363,9 @@ class Maps(InFolder):
     def test_refused(self) -> None:
         self.refuses("not a map of h2audit-import", self.write("map", b"\0" * 100))
         self.refuses("not a map of h2audit-import", self.write("map", b""))
-        self.refuses("version 2 of the map is unknown: this is for version 1", self.write("map", b"h2audit-map 2\n"))
+        self.refuses("version 3 of the map is unknown: this is for version 1", self.write("map", b"h2audit-map 3\n"))
+        joined = "a map of connections that were joined (--joined) is not read here"
+        self.refuses(joined, self.write("map", b"h2audit-map 2\n"))
         self.refuses("line 3 is no line of a map", self.map("file 1 a.pcap", "record 1 packet 2"))
         self.refuses("it has no record 3, which the report names", self.map("file 1 a", "record 2 file 1 packet 12"))
         self.refuses(f"{self.CAPTURE} is not one of its files by name: it has none", self.map())

@@ -54,7 +54,7 @@ class Back(unittest.TestCase):
         for text in (
             b"",
             b"\xff",
-            b"h2audit-map 2\n" + whole[14:],
+            b"h2audit-map 3\n" + whole[14:],
             b"".join(lines[:3]),
             whole.replace(record, b""),
             whole.replace(b"record 1 ", b"record one "),
