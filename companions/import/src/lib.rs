@@ -25,9 +25,12 @@
 
 mod addresses;
 mod answers;
+mod bounds;
 pub mod command;
 mod connections;
 mod course;
+mod encrypted;
+mod followed;
 mod importing;
 mod joined_lines;
 mod joining;
@@ -44,10 +47,12 @@ mod shifted;
 mod sink;
 mod table;
 mod tracked;
+mod waiting;
 mod ways;
 mod words;
 
 pub use addresses::{escaped, Addresses};
+pub use bounds::Bounds;
 pub use command::sorted;
 pub use course::{Again, Course, Courses, Held, Side, Uncaptured, Why, NEVER};
 pub use importing::{imported, Asked};
@@ -55,8 +60,8 @@ pub use listener::{Files, Listener, Record, Sender, Written};
 pub use map_file::MapFile;
 pub use others::{is_tunnel, Kind, Other};
 pub use outcomes::{
-    help_for, times_go_back, Back, Became, End, Fate, JoinedConnection, Older, Outcome, Read, Reordered, SideRead,
-    Summary, Unopened,
+    help_for, times_go_back, Back, Became, End, Fate, JoinedConnection, NotJoined, Older, Outcome, Read, Reordered,
+    SideRead, Summary, Unopened,
 };
 pub use preamble::Preamble;
 pub use sink::{Problem, Sink, Target};
