@@ -19,6 +19,10 @@
 //! [`Courses`] has, after the import, what TCP did on each connection, where that is asked for; the memory for it is
 //! bounded by connections and by the stretches of time in which TCP held back what a side sends.
 //!
+//! With [`Asked::is_joined`], connections that began before the capture are joined (the crate `joined`): behind all else
+//! come records that are made up ([`Record::is_made`]), and the packets of these connections, as new ones behind all
+//! others. [`Summary::joined`] has how, and what is assumed; [`Fate`] what became of each pair that opened none.
+//!
 //! Connections count from 0 on in the order of openings, in [`Sender`], [`Summary`] and [`Courses`] alike.
 
 #![forbid(unsafe_code)]
