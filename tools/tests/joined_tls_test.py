@@ -31,7 +31,7 @@ from tools.tests.import_tools import (
     stood_in,
 )
 from tools.tests.joined_cuts import SYN, Ends, Joined, Segment, Whole, audited, known_ones, said_of, segment_of
-from tools.tests.joined_tally import Tally
+from tools.tests.joined_tally import Tally, share
 
 PROGRAM = ""
 NAMES = (
@@ -47,7 +47,8 @@ NAMES = (
 OF_TLS_1_2 = "curl-nginx-12-any-cooked"
 CUTS = 10
 LOSSY = {"loss-and-reordering"}
-HOLES: set[tuple[str, int, int]] = {("loss-and-reordering", 50, 1)}
+# Cuts behind which a side's first segments are those that overtook others: nothing is read past the hole.
+HOLES = {("loss-and-reordering", 50)}
 INTERFACE, ENHANCED_PACKET, SECRETS, SECTION = 1, 6, 10, 0x0A0D0D0A  # blocks of pcapng
 Rows = list[tuple[bytes, int]]  # plaintext, and the packet that completed it
 
@@ -123,9 +124,14 @@ class Cuts(unittest.TestCase):
         print("\n".join(tally.lines()))
         if "-v" in sys.argv:
             print("\n".join(tally.notes))
-        counts = tally.counts
+        counts, grades = tally.counts, tally.by_grade
         self.assertGreater(counts["connections"], 150)
+        self.assertGreater(counts["exact"], 50)
         self.assertEqual((counts["sides wrong"], counts["borders wrong"], counts["false faults"]), (0, 0, 0))
+        self.assertGreater(counts["stalls found"], 250)
+        for grade, least in {"strong": 0.98, "likely": 0.93, "either": 0.9}.items():
+            true, false = grades[grade]
+            self.assertGreaterEqual(share(true, true + false), least, grade)
 
     def compare(self, tally: Tally, name: str, made: Made, whole: Whole, rest: Opened, at: int) -> None:
         """Compares the connections that began before the cut."""
@@ -142,19 +148,19 @@ class Cuts(unittest.TestCase):
             self.assertIn(ends, said)
             found = said[ends]
             segments = []
-            for side, way in enumerate(ways):
-                if (name, at, side) not in HOLES:
+            for way in ways:
+                if (name, at) not in HOLES:
                     self.compare_rows(wanted[way], rest.rows[way], at, is_lossy=name in LOSSY)
                 segments += [one for one in whole.segments if one.ends == way and one.payload][-len(rest.rows[way]) :]
-            if found.how == "inferred":
-                self.assertEqual(found.sides, "secret")
-            if found.how == "inferred" and not any((name, at, side) in HOLES for side in (0, 1)):
-                tally.compare(f"{name} cut {at}", one, found, rest.joined, segments, before)
-            else:
+            if found.how != "inferred":
                 tally.add("exact")
+                continue
+            self.assertEqual(found.sides, "secret")
+            if (name, at) not in HOLES:
+                tally.compare(f"{name} cut {at}", one, found, rest.joined, segments, before)
 
     def compare_rows(self, wanted: Rows, found: Rows, at: int, is_lossy: bool) -> None:
-        """All plaintext behind a cut is there, but for a record that it goes through; what was sent again may be too."""
+        """All plaintext behind a cut is there, but for a record that it goes through; also what was sent again."""
         lost = sum(packet > at for _, packet in wanted) - len(found)
         self.assertLessEqual(lost, 3 if is_lossy else 1)
         same = wanted[len(wanted) - len(found) :]
@@ -245,7 +251,7 @@ class Written(unittest.TestCase):
         """Neither in the map, nor on standard error, nor in what is made."""
         for name in NAMES:
             packets, link = packets_in(capture_named(name))
-            for words in ([], ["--join-seconds", "0"]):
+            for words in ((), ("--join-seconds", "0")):
                 source = pcap_of(packets[len(packets) // 2 :], link)
                 made = imported("--joined", *words, *key_log_of(name), input=source)
                 text = "\n".join([*made.map, made.said]).lower()

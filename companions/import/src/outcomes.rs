@@ -55,7 +55,7 @@ pub struct Read {
     pub records: u64,
     pub early_records: u64,
     pub rejected_records: u64,
-    /// Where the hellos were not seen: the bytes of client and server before their first whole records.
+    /// Where the hellos were not seen: the bytes of client and server before the first record that is opened.
     pub skipped: Option<[usize; 2]>,
     pub client: SideRead,
     pub server: SideRead,
