@@ -30,7 +30,7 @@ from tools.tests.import_tools import (
     read_pcap,
     stood_in,
 )
-from tools.tests.joined_cuts import SYN, Ends, Joined, Segment, Whole, audited, known_ones, said_of, segment_of
+from tools.tests.joined_cuts import SYN, Ends, Joined, Whole, audited, known_ones, said_of, segment_of
 from tools.tests.joined_tally import Tally, share
 
 PROGRAM = ""

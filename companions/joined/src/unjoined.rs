@@ -3,7 +3,7 @@
 /// Why a connection is not joined.
 #[derive(Clone, Copy, Debug, PartialEq, Eq)]
 pub enum Unjoined {
-    /// It is encrypted.
+    /// It is encrypted, in a way that is not opened.
     Tls,
     /// No frames of HTTP/2 were found.
     NoFrames,
