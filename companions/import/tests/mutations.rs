@@ -127,8 +127,8 @@ fn mutated_captures_that_are_cut() {
 fn mutated_captures_of_tls_that_are_cut() {
     let folder = tempfile::tempdir().unwrap();
     let read = |(capture, keys)| (fs::read(capture).unwrap(), fs::read(keys).unwrap_or_default());
-    let originals: Vec<(Vec<u8>, Vec<u8>)> = common::captures().into_iter().map(read).collect();
-    let originals: Vec<_> = originals.into_iter().filter(|(_, keys)| !keys.is_empty()).collect();
+    let all = common::captures().into_iter().map(read);
+    let originals: Vec<(Vec<u8>, Vec<u8>)> = all.filter(|(_, keys)| !keys.is_empty()).collect();
     mutations::each(1000, |dice| {
         let (capture, keys) = dice.of_these(&originals);
         let capture = cut(capture, dice);
