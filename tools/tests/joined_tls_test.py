@@ -184,7 +184,9 @@ class Refused(unittest.TestCase):
         words = key_log_of("small-window-v6")
         made = self.cut("nghttp-nghttpd-13", "--join-numbers", "600", *words, with_keys=False)
         self.assertEqual(made.map_words("unjoined"), ["searched-numbers 600"])
-        told = "1 flow of TLS from before the capture not opened by record numbers below 600 (--join-numbers)"
+        told = (
+            "1 connection of TLS from before the capture not wholly opened by record numbers below 600 (--join-numbers)"
+        )
         self.assertIn(f"h2audit-import: {told}\n", made.said)
 
     def test_numbers_that_are_too_high(self) -> None:
@@ -197,7 +199,7 @@ class Refused(unittest.TestCase):
     def test_no_time(self) -> None:
         made = self.cut("nghttp-nghttpd-13", "--join-seconds", "0")
         self.assertEqual(made.map_words("unjoined"), ["searched-seconds 0"])
-        told = "1 flow of TLS from before the capture not opened within 0 s (--join-seconds)"
+        told = "1 connection of TLS from before the capture not wholly opened within 0 s (--join-seconds)"
         self.assertIn(f"h2audit-import: {told}\n", made.said)
 
     def test_words(self) -> None:

@@ -3,7 +3,7 @@
 
 use tls::{Reason, Search};
 
-use crate::outcomes::{Became, End, Fate, NotJoined, Summary};
+use crate::outcomes::{Became, End, Fate, NotJoined, Outcome, Summary, Unopened};
 
 /// For all connections together, as [`Search`] has it.
 #[derive(Clone, Copy, Debug)]
@@ -27,37 +27,25 @@ impl Bounds {
 
     /// What is said of connections of which something was not opened within these bounds.
     pub(crate) fn said(&self, summary: &Summary) -> Vec<String> {
-        let reasons: Vec<Reason> = reasons_in(summary).collect();
-        let said = |reason: Reason, how: String, option: &str| {
-            let count = reasons.iter().filter(|one| **one == reason).count();
-            let many = if count == 1 { "flow" } else { "flows" };
-            (count > 0).then(|| format!("{count} {many} of TLS from before the capture not opened {how} ({option})"))
-        };
         let Bounds { numbers, seconds } = *self;
-        let by_numbers = format!("by record numbers below {numbers}");
-        [
-            said(Reason::SearchedNumbers(numbers), by_numbers, "--join-numbers"),
-            said(Reason::SearchedSeconds(seconds), format!("within {seconds} s"), "--join-seconds"),
-        ]
-        .into_iter()
-        .flatten()
-        .collect()
+        let by_numbers =
+            (Reason::SearchedNumbers(numbers), format!("by record numbers below {numbers} (--join-numbers)"));
+        let by_seconds = (Reason::SearchedSeconds(seconds), format!("within {seconds} s (--join-seconds)"));
+        let counted = [by_numbers, by_seconds].into_iter().map(|(why, how)| (count_of(summary, why), how));
+        let said = counted.filter(|(count, _)| *count > 0).map(|(count, how)| {
+            let many = if count == 1 { "" } else { "s" };
+            format!("{count} connection{many} of TLS from before the capture not wholly opened {how}")
+        });
+        said.collect()
     }
 }
 
-/// Why connections that began before the capture, or sides of them, were not opened.
-fn reasons_in(summary: &Summary) -> impl Iterator<Item = Reason> + '_ {
-    let whole = summary.unopened.iter().filter_map(|pair| match pair.fate {
-        Fate::Unjoined(NotJoined::Tls(why)) => Some(why),
-        _ => None,
-    });
-    let ends = summary.outcomes.iter().flat_map(|outcome| match &outcome.became {
-        Became::Read(read) => [Some(read.client.end), Some(read.server.end)],
-        Became::Clear | Became::Refused(_) => [None; 2],
-    });
-    let sides = ends.flatten().filter_map(|end| match end {
-        End::Stopped(why) => Some(why),
-        _ => None,
-    });
-    whole.chain(sides)
+/// How many connections that began before the capture, or a side of theirs, were not opened for this reason.
+fn count_of(summary: &Summary, why: Reason) -> usize {
+    let is_whole = |pair: &&Unopened| matches!(pair.fate, Fate::Unjoined(NotJoined::Tls(reason)) if reason == why);
+    let is_side = |outcome: &&Outcome| match &outcome.became {
+        Became::Read(read) => [read.client.end, read.server.end].contains(&End::Stopped(why)),
+        Became::Clear | Became::Refused(_) => false,
+    };
+    summary.unopened.iter().filter(is_whole).count() + summary.outcomes.iter().filter(is_side).count()
 }
