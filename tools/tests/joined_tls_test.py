@@ -133,6 +133,17 @@ class Cuts(unittest.TestCase):
             true, false = grades[grade]
             self.assertGreaterEqual(share(true, true + false), least, grade)
 
+    def test_each_packet(self) -> None:
+        """Wherever it begins, what is left is opened, up to the last packet with plaintext."""
+        for name in ("key-updates", "nghttp-nghttpd-13", "small-window-v6", "stream-overrun-go"):
+            packets, link = packets_in(capture_named(name))
+            whole = imported(*key_log_of(name), input=pcap_of(packets, link))
+            last = max(packet for rows in rows_of(whole, 0).values() for _, packet in rows)
+            for at in range(1, last):
+                with self.subTest(name=name, at=at):
+                    rest = opened(packets, link, at, *key_log_of(name))
+                    self.assertEqual((rest.joined.unjoined, len(rest.joined.said)), ([], 1))
+
     def compare(self, tally: Tally, name: str, made: Made, whole: Whole, rest: Opened, at: int) -> None:
         """Compares the connections that began before the cut."""
         packet_of = {int(row[1]): int(row[5]) for row in map(str.split, made.map) if row[0] == "record"}
