@@ -5,6 +5,8 @@ complete -c h2audit-import -s j -l jobs -x -a '(seq 64)' -d 'Taken from 1 to 64,
 complete -c h2audit-import -l sort -d 'Read the files in the order of their first packets'
 complete -c h2audit-import -l reorder -d 'Put packets in order of time'
 complete -c h2audit-import -l joined -d 'Also write connections that began before the capture'
+complete -c h2audit-import -l join-numbers -x -d 'Open TLS 1.3 by record numbers below this'
+complete -c h2audit-import -l join-seconds -x -d 'Search for so many seconds at most'
 complete -c h2audit-import -s o -l output -r -d 'Where the capture goes'
 complete -c h2audit-import -s m -l map -r -d 'Where the map goes'
 complete -c h2audit-import -s h -l help -d 'Print the usage, and nothing else'

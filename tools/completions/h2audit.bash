@@ -61,11 +61,13 @@ _h2audit_page() {
 
 _h2audit_import() {
     local word=${COMP_WORDS[COMP_CWORD]} before=${COMP_WORDS[COMP_CWORD - 1]}
-    local options='--key-log -k --jobs -j --sort --reorder --joined --output -o --map -m --help -h --version -V'
+    local options='--key-log -k --jobs -j --sort --reorder --joined --join-numbers --join-seconds --output -o --map -m'
+    options+=' --help -h --version -V'
     [[ $word == = ]] && word=
     [[ $before == = ]] && before=${COMP_WORDS[COMP_CWORD - 2]}
     case $before in
     --jobs | -j) _h2audit_offer -W "$(echo {1..64})" -- "$word" ;;
+    --join-numbers | --join-seconds) COMPREPLY=() ;;
     *)
         case $word in
         -*) _h2audit_offer -W "$options" -- "$word" ;;

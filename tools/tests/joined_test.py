@@ -195,10 +195,11 @@ class Made(unittest.TestCase):
         self.source("text.pcap", [one for one in packets_of_script([f"C {hexed(b'no frames of HTTP/2. ' * 99)}"] * 9)])
         _, lines = self.made("text.pcap", "--joined")
         self.assertIn("unjoined no-frames", lines)
-        tls = packets_of_script([f"S {hexed((bytes([23, 3, 3, 4, 0]) + bytes(range(256)) * 4) * 6)}"] * 4)
-        self.source("tls.pcap", tls)
-        _, lines = self.made("tls.pcap", "--joined")
-        self.assertIn("unjoined tls", lines)
+        for version, why in ((1, "tls"), (3, "no-key")):
+            records = (bytes([23, 3, version, 4, 0]) + bytes(range(256)) * 4) * 6
+            self.source("tls.pcap", packets_of_script([f"S {hexed(records)}"] * 4))
+            _, lines = self.made("tls.pcap", "--joined")
+            self.assertIn(f"unjoined {why}", lines)
 
 
 class Credits(unittest.TestCase):

@@ -10,7 +10,7 @@ use std::ffi::OsString;
 use std::io::{BufRead, BufReader, Write};
 use std::path::Path;
 
-use import::Sink;
+use import::{Bounds, Sink};
 use originals::{bring_back, no_report, Keeping, Original, Shown};
 use programs::{end_cleanly, print, program_named, run, say, Audit, Failure, Input, Outcome, Output, PrivateFile};
 
@@ -88,8 +88,8 @@ fn made_of(asked: &Audited, files: &[OsString], made: &mut PrivateFile) -> Resul
     let mut keeping = Keeping::default();
     let mut sink = Sink::new(made, &mut keeping)?;
     let Audited { key_logs, is_reordered, .. } = asked;
-    let (is_reordered, is_joined) = (*is_reordered, false);
-    let import = import::Asked { program: NAME, files, key_logs, is_reordered, is_joined, can_repeat: true };
+    let (is_reordered, is_joined, bounds) = (*is_reordered, false, Bounds::default());
+    let import = import::Asked { program: NAME, files, key_logs, is_reordered, is_joined, bounds, can_repeat: true };
     import::imported(&import, &mut sink, None)?;
     drop(sink);
     Ok(keeping.original)

@@ -6,7 +6,7 @@ use std::io;
 use std::path::Path;
 use std::time::Instant;
 
-use import::{Courses, Sink, Summary};
+use import::{Bounds, Courses, Sink, Summary};
 use originals::Keeping;
 use programs::{program_named, temporary_failure, Failure, PrivateFile};
 
@@ -114,7 +114,8 @@ fn make(asked: &Asked<'_>, keeping: Option<Keeping>) -> Result<(Made, Option<Kee
     let mut courses = Courses::default();
     let mut sink = Sink::new(&mut capture, &mut listening)?;
     let Asked { program, files, key_logs, is_reordered, .. } = *asked;
-    let import = import::Asked { program, files, key_logs, is_reordered, is_joined: false, can_repeat: true };
+    let (is_joined, bounds) = (false, Bounds::default());
+    let import = import::Asked { program, files, key_logs, is_reordered, is_joined, bounds, can_repeat: true };
     let summary = import::imported(&import, &mut sink, Some(&mut courses))?;
     drop(sink);
     if summary.counts.fragments + summary.counts.refused > 0 {

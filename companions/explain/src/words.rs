@@ -22,7 +22,7 @@ const CODES: [&str; 14] = [
 ];
 const UNITS: [(&str, Nanos); 3] = [("s", 1_000_000_000), ("ms", 1_000_000), ("µs", 1_000)];
 /// Why connections were not audited, in words behind "3 connections".
-const REASONS: [(&str, &str); 11] = [
+const REASONS: [(&str, &str); 14] = [
     ("no-key", " of TLS without a key in the key logs (-k)"),
     ("wrong-key", " of TLS whose keys in the key logs are those of another run"),
     ("one-direction", " of which one direction alone was captured"),
@@ -34,6 +34,9 @@ const REASONS: [(&str, &str); 11] = [
     ("h2c-upgrade", " that began by HTTP/1.1 and asked for an upgrade to HTTP/2"),
     ("no-preface", " whose client sent no whole preface of HTTP/2"),
     ("handshake-unfinished", " of TLS that ended before the handshake did"),
+    ("no-server-random", " of TLS 1.2 whose hellos were before the capture"),
+    ("searched-numbers", " of TLS whose hellos were before the capture, and that no key of the key logs opens"),
+    ("searched-seconds", " of TLS whose hellos were before the capture, and for which no time was left to search"),
 ];
 /// Protocols that are told by the first bytes.
 const PROTOCOLS: [(&str, &str); 13] = [

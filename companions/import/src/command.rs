@@ -75,9 +75,9 @@ fn made(asked: &Import, files: &[OsString], output: &mut Output, map: Option<&mu
         .all(|path| path.as_os_str() != "-" && !is_special(path).unwrap_or(true));
     let mut map = MapFile::new(map, asked.is_joined);
     let mut sink = Sink::new(output, &mut map)?;
-    let Import { key_logs, is_reordered, is_joined, .. } = asked;
-    let (is_reordered, is_joined) = (*is_reordered, *is_joined);
-    let asked = Asked { program: NAME, files, key_logs, is_reordered, is_joined, can_repeat };
+    let Import { key_logs, is_reordered, is_joined, bounds, .. } = asked;
+    let (is_reordered, is_joined, bounds) = (*is_reordered, *is_joined, *bounds);
+    let asked = Asked { program: NAME, files, key_logs, is_reordered, is_joined, bounds, can_repeat };
     imported(&asked, &mut sink, None)
 }
 

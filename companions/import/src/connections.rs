@@ -379,7 +379,9 @@ impl Connection {
                 };
                 let mut plain = Plain { numbers: &mut self.numbers, sink };
                 tls.finish(shared, &mut plain, &known);
-                became(tls, &mut plain)
+                let (became, lost) = became(tls, plain.numbers.sent);
+                plain.lose(lost);
+                became
             }
             _ => Became::Clear,
         };

@@ -136,6 +136,13 @@ impl Courses {
         self.tracked[connection].begin_behind(side, segment);
     }
 
+    /// A connection's segments begin behind these numbers, where what is made up has others.
+    pub(crate) fn begin(&mut self, connection: usize, initial: [Option<u32>; 2]) {
+        for (side, initial) in initial.into_iter().enumerate() {
+            initial.into_iter().for_each(|initial| self.tracked[connection].begin(side, initial));
+        }
+    }
+
     /// Takes the end of the capture.
     pub(crate) fn finish(&mut self) {
         for (tracked, course) in std::mem::take(&mut self.tracked).into_iter().zip(&mut self.connections) {

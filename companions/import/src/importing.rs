@@ -14,6 +14,7 @@ use programs::{printable, say, Failure, Progress};
 use reports::{grouped, Capture};
 use tls::Shared;
 
+use crate::bounds::Bounds;
 use crate::course::Courses;
 use crate::joining::Joining;
 use crate::others::Others;
@@ -37,6 +38,8 @@ pub struct Asked<'a> {
     pub is_reordered: bool,
     /// Whether connections that began before the capture are joined.
     pub is_joined: bool,
+    /// How far is searched for what opens those of TLS.
+    pub bounds: Bounds,
     /// Whether what is made can be taken back, so that the files are read once more where that gives more keys.
     pub can_repeat: bool,
 }
@@ -47,15 +50,18 @@ pub fn imported(asked: &Asked<'_>, sink: &mut Sink<'_>, mut courses: Option<&mut
     let standard = [OsString::from(STANDARD_INPUT)];
     let files = if asked.files.is_empty() { &standard[..] } else { asked.files };
     let mut shared = Shared::default();
+    shared.search = asked.bounds.search();
     read_keys(asked, files, &mut shared)?;
     shared.keys.waits_for_sessions = shared.more_keys || !asked.can_repeat;
     let (mut summary, missed) = read_through(asked, files, &mut shared, sink, courses.as_deref_mut(), true)?;
     if !missed.is_empty() {
         sink.begin_anew()?;
         shared.sessions = Default::default();
+        shared.search = asked.bounds.search();
         shared.keys.add_text(&missed);
         summary = read_through(asked, files, &mut shared, sink, courses, false)?.0;
     }
+    asked.bounds.said(&summary).iter().for_each(|words| say(asked.program, words));
     Ok(summary)
 }
 
@@ -263,7 +269,7 @@ impl<'a, 'b> Importer<'a, 'b> {
             Err(stray) => {
                 if let Some(joining) = &mut self.joining {
                     joining
-                        .take(stray, arrival, &segment)
+                        .take(self.shared, stray, arrival, &segment)
                         .map_err(|failure| Early::Problem(Problem::Failed(failure)))?;
                 }
             }
@@ -339,11 +345,11 @@ impl<'a, 'b> Importer<'a, 'b> {
             self.table.keys_came(self.shared, self.sink, &randoms);
         }
         self.counts.records = self.packets;
-        let (joined, fates) = self.join()?;
-        let (outcomes, mut unopened) = std::mem::take(&mut self.table).finish_all(self.shared, self.sink);
-        unopened.iter_mut().zip(fates).for_each(|(one, fate)| one.fate = fate);
+        let mut ended = self.join()?;
+        let (mut outcomes, mut unopened) = std::mem::take(&mut self.table).finish_all(self.shared, self.sink);
+        ended.complete(&mut outcomes, &mut unopened);
         let summary = Summary {
-            joined,
+            joined: ended.joined,
             counts: self.counts,
             dropped: self.dropped,
             back: self.back.take(),

@@ -21,7 +21,14 @@
 //!
 //! With [`Asked::is_joined`], connections that began before the capture are joined (the crate `joined`): behind all else
 //! come records that are made up ([`Record::is_made`]), and the packets of these connections, as new ones behind all
-//! others. [`Summary::joined`] has how, and what is assumed; [`Fate`] what became of each pair that opened none.
+//! others. [`Summary::joined`] has how, and what is assumed; [`Fate`] what became of each pair that opened none. TLS 1.3
+//! is opened without its hellos, within [`Bounds`]:
+//!
+//! ```text
+//! table ─ joining ─ followed ─┬─ joined             a pair's frames, and what is made up for them
+//!                             └─ encrypted ─ tls    its plaintext, where it has records
+//!            └─ waiting    packets and plaintext, until all is read
+//! ```
 //!
 //! Connections count from 0 on in the order of openings, in [`Sender`], [`Summary`] and [`Courses`] alike.
 
@@ -29,9 +36,12 @@
 
 mod addresses;
 mod answers;
+mod bounds;
 pub mod command;
 mod connections;
 mod course;
+mod encrypted;
+mod followed;
 mod importing;
 mod joined_lines;
 mod joining;
@@ -48,10 +58,12 @@ mod shifted;
 mod sink;
 mod table;
 mod tracked;
+mod waiting;
 mod ways;
 mod words;
 
 pub use addresses::{escaped, Addresses};
+pub use bounds::Bounds;
 pub use command::sorted;
 pub use course::{Again, Course, Courses, Held, Side, Uncaptured, Why, NEVER};
 pub use importing::{imported, Asked};
@@ -59,8 +71,8 @@ pub use listener::{Files, Listener, Record, Sender, Written};
 pub use map_file::MapFile;
 pub use others::{is_tunnel, Kind, Other};
 pub use outcomes::{
-    help_for, times_go_back, Back, Became, End, Fate, JoinedConnection, Older, Outcome, Read, Reordered, SideRead,
-    Summary, Unopened,
+    help_for, times_go_back, Back, Became, End, Fate, JoinedConnection, NotJoined, Older, Outcome, Read, Reordered,
+    SideRead, Summary, Unopened,
 };
 pub use preamble::Preamble;
 pub use sink::{Problem, Sink, Target};

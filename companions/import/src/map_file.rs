@@ -73,6 +73,9 @@ impl<'a> MapFile<'a> {
         if accepted > 0 || rejected > 0 {
             self.line(format_args!("early-data accepted {accepted} rejected {rejected}"));
         }
+        if let Some([client, server]) = read.skipped {
+            self.line(format_args!("skipped client {client} server {server}"));
+        }
     }
 
     fn side(&mut self, name: &str, side: &SideRead) {
@@ -143,7 +146,7 @@ impl Listener for MapFile<'_> {
             match pair.fate {
                 Fate::NotAsked => {}
                 Fate::Joined(connection) => self.line(format_args!("joined-as {}", connection + 1)),
-                Fate::Unjoined(why) => self.line(format_args!("unjoined {}", why.word())),
+                Fate::Unjoined(why) => self.line(format_args!("unjoined {why}")),
             }
         }
         let mut joined = summary.joined.iter().peekable();

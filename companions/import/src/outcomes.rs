@@ -55,6 +55,8 @@ pub struct Read {
     pub records: u64,
     pub early_records: u64,
     pub rejected_records: u64,
+    /// Where the hellos were not seen: the bytes of client and server before the first record that is opened.
+    pub skipped: Option<[usize; 2]>,
     pub client: SideRead,
     pub server: SideRead,
 }
@@ -90,7 +92,8 @@ impl Became {
             Became::Clear => "clear".to_string(),
             Became::Refused(why) => format!("refused {why}"),
             Became::Read(read) => {
-                let protocol = read.protocol.as_ref().map_or("none".to_string(), |protocol| escaped(protocol));
+                let without = if read.skipped.is_some() { "unknown" } else { "none" };
+                let protocol = read.protocol.as_ref().map_or(without.to_string(), |protocol| escaped(protocol));
                 format!("tls {} {} alpn {protocol} records {}", read.version, read.suite, read.records)
             }
         }
@@ -132,7 +135,23 @@ pub enum Fate {
     NotAsked,
     /// As the connection of this number.
     Joined(usize),
-    Unjoined(Unjoined),
+    Unjoined(NotJoined),
+}
+
+/// Why it was not: for lack of frames, or of what opens its records.
+#[derive(Clone, Copy, Debug, PartialEq, Eq)]
+pub enum NotJoined {
+    Frames(Unjoined),
+    Tls(Reason),
+}
+
+impl fmt::Display for NotJoined {
+    fn fmt(&self, out: &mut fmt::Formatter<'_>) -> fmt::Result {
+        match self {
+            NotJoined::Frames(why) => out.write_str(why.word()),
+            NotJoined::Tls(why) => why.fmt(out),
+        }
+    }
 }
 
 /// A connection that was joined, and so has records that were made up.

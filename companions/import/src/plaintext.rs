@@ -7,7 +7,8 @@ use crate::listener::{Sender, Written};
 use crate::outcomes::{Became, End, Read, SideRead};
 use crate::sink::Sink;
 
-const PUSH_AND_ACK: u8 = 0x18;
+/// The flags of a segment of plaintext.
+pub const PUSH_AND_ACK: u8 = 0x18;
 
 /// Ends and numbers of a connection, of which the plaintext that is written has its own.
 pub struct Numbers {
@@ -27,49 +28,62 @@ pub struct Later {
     pub sides: [usize; 2],
 }
 
-/// What became of a connection of TLS, at its end.
-pub fn became(tls: &tls::Connection, plain: &mut Plain<'_, '_>) -> Became {
+/// What became of a connection of TLS, at its end, of which so many bytes are written; and of each side the first packet
+/// behind bytes that were lost.
+pub fn became(tls: &tls::Connection, sent: [u32; 2]) -> (Became, [Option<Arrival>; 2]) {
     if let Some(why) = tls.refused() {
-        return Became::Refused(why);
+        return (Became::Refused(why), [None; 2]);
     }
-    let [client, server] = [CLIENT, SERVER].map(|side| side_read(tls, plain, side));
+    let roles = tls.client().map_or([CLIENT, SERVER], |client| [client, 1 - client]);
+    let [client, server] = roles.map(|index| side_read(tls.side(index), sent[index]));
     let known = tls.handshake();
     let (early_records, rejected_records) = known.early_data();
-    Became::Read(Box::new(Read {
+    let read = Became::Read(Box::new(Read {
         version: if known.version() == Some(TLS_1_2) { "1.2" } else { "1.3" },
         suite: known.suite().map_or("-", |suite| suite.name),
         protocol: known.protocol().map(<[u8]>::to_vec),
         records: tls.count(),
         early_records,
         rejected_records,
+        skipped: known.is_joined().then(|| roles.map(|index| tls.side(index).skipped())),
         client,
         server,
-    }))
+    }));
+    (read, [CLIENT, SERVER].map(|index| lost_of(tls.side(index))))
 }
 
-/// How far a side's plaintext goes. A byte past a hole makes h2audit say that there is one.
-fn side_read(tls: &tls::Connection, plain: &mut Plain<'_, '_>, index: usize) -> SideRead {
-    let side = tls.side(index);
-    let bytes = plain.numbers.sent[index];
-    let lost = side.end().map(|(_, arrival)| arrival).or_else(|| side.flow().behind_hole());
-    if let Some(arrival) = lost {
-        plain.numbers.write(plain.sink, index, bytes + 1, b"\0", arrival);
-    }
+fn lost_of(side: &tls::Side) -> Option<Arrival> {
+    side.end().map(|(_, arrival)| arrival).or_else(|| side.flow().behind_hole())
+}
+
+/// How far a side's plaintext goes.
+fn side_read(side: &tls::Side, bytes: u32) -> SideRead {
+    let has_gap = lost_of(side).is_some();
     let tail = if side.end().is_none() { side.tail() } else { 0 };
     let end = match side.end() {
         Some((why, _)) => End::Stopped(why),
-        None if lost.is_some() => End::Lost,
+        None if has_gap => End::Lost,
         None if tail > 0 && side.flow().next() == END_OF_OFFSETS => End::TooLarge,
         None if tail > 0 => End::Cut,
         None => End::Whole,
     };
-    SideRead { bytes, has_gap: lost.is_some(), tail, end }
+    SideRead { bytes, has_gap, tail, end }
 }
 
 /// Takes plaintext to the capture that is made.
 pub struct Plain<'a, 'b> {
     pub numbers: &'a mut Numbers,
     pub sink: &'a mut Sink<'b>,
+}
+
+impl Plain<'_, '_> {
+    /// Writes a byte past what was lost of each side, so that h2audit says that there is a hole.
+    pub fn lose(&mut self, lost: [Option<Arrival>; 2]) {
+        for (index, arrival) in lost.into_iter().enumerate() {
+            let behind = self.numbers.sent[index] + 1;
+            arrival.into_iter().for_each(|arrival| self.numbers.write(self.sink, index, behind, b"\0", arrival));
+        }
+    }
 }
 
 impl Emit for Plain<'_, '_> {

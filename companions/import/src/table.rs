@@ -161,6 +161,14 @@ impl Table {
         Ok(Taken { sender, opens: false })
     }
 
+    /// Whose a segment of these ends is by now.
+    pub fn sender(&self, ends: &Ends) -> Option<Sender> {
+        let (pair, is_less) = pair_of(ends);
+        let place = self.places.get(&pair)?;
+        let side = if place.client_is_less == is_less { CLIENT } else { SERVER };
+        Some(Sender { connection: place.connection, side })
+    }
+
     fn take_open(
         &mut self,
         shared: &mut Shared,

@@ -65,7 +65,12 @@ impl Tracked {
     pub fn begin_behind(&mut self, side: usize, segment: &Segment<'_>) {
         let length = segment.payload().len() as u32;
         let before = if segment.flags & flags::SYN != 0 { 0 } else { 1 };
-        self.sides[side].sent.begin(segment.sequence.wrapping_add(length).wrapping_sub(before));
+        self.begin(side, segment.sequence.wrapping_add(length).wrapping_sub(before));
+    }
+
+    /// What a side sends begins behind this number.
+    pub fn begin(&mut self, side: usize, initial: u32) {
+        self.sides[side].sent.begin(initial);
     }
 
     /// Counts the bytes of a segment, and notes holes.

@@ -6,7 +6,12 @@ use std::path::PathBuf;
 use lexopt::Arg::{Long, Short, Value};
 use programs::{missing, number, wrong, Failure};
 
+use crate::bounds::Bounds;
+
 const MOST_JOBS: u64 = 64;
+/// Records of one connection, and a day.
+const MOST_NUMBERS: u64 = 1 << 40;
+const MOST_SECONDS: u64 = 86_400;
 
 /// What a command line asks for.
 pub enum Words {
@@ -23,13 +28,14 @@ pub struct Import {
     pub is_sorted: bool,
     pub is_reordered: bool,
     pub is_joined: bool,
+    pub bounds: Bounds,
 }
 
 pub fn words_of(words: Vec<OsString>) -> Result<Words, Failure> {
     let mut parser = lexopt::Parser::from_args(words);
     let (mut files, mut key_logs) = (Vec::new(), Vec::new());
     let (mut is_sorted, mut is_reordered, mut is_joined) = (false, false, false);
-    let (mut output, mut map) = (None, None);
+    let (mut output, mut map, mut bounds) = (None, None, Bounds::default());
     while let Some(word) = parser.next().map_err(wrong)? {
         match word {
             Short('h') | Long("help") => return Ok(Words::Help),
@@ -40,6 +46,12 @@ pub fn words_of(words: Vec<OsString>) -> Result<Words, Failure> {
             Long("sort") => is_sorted = true,
             Long("reorder") => is_reordered = true,
             Long("joined") => is_joined = true,
+            Long("join-numbers") => {
+                bounds.numbers = number("--join-numbers", &parser.value().map_err(wrong)?, 1, MOST_NUMBERS)?;
+            }
+            Long("join-seconds") => {
+                bounds.seconds = number("--join-seconds", &parser.value().map_err(wrong)?, 0, MOST_SECONDS)?;
+            }
             Short('j') | Long("jobs") => {
                 number("-j/--jobs", &parser.value().map_err(wrong)?, 1, MOST_JOBS)?;
             }
@@ -48,5 +60,5 @@ pub fn words_of(words: Vec<OsString>) -> Result<Words, Failure> {
         }
     }
     let output = output.ok_or_else(|| missing(&["-o/--output"]))?;
-    Ok(Words::Import(Import { files, key_logs, output, map, is_sorted, is_reordered, is_joined }))
+    Ok(Words::Import(Import { files, key_logs, output, map, is_sorted, is_reordered, is_joined, bounds }))
 }

@@ -9,7 +9,7 @@ use std::fs;
 use std::path::Path;
 use std::time::{Duration, Instant};
 
-use import::{imported, Asked, Courses, MapFile, Sink};
+use import::{imported, Asked, Bounds, Courses, MapFile, Sink};
 use mutations::changed;
 use programs::{Failure, Output};
 
@@ -19,6 +19,9 @@ const MOST_SECONDS: u64 = 60;
 const MOST_GROWTH: usize = 8;
 /// What is made up for a connection that is joined, at most.
 const MOST_MADE: usize = 17 << 20;
+
+/// A search is so short that many captures can be tried.
+const BOUNDS: Bounds = Bounds { numbers: 1 << 10, seconds: 10 };
 
 /// How a capture is imported.
 #[derive(Clone, Copy, Default)]
@@ -37,7 +40,7 @@ fn import(folder: &Path, how: How) -> Result<Vec<u8>, Failure> {
         let (files, key_logs) = ([OsString::from(folder.join("capture"))], [OsString::from(folder.join("keys"))]);
         let How { is_reordered, is_joined } = how;
         let (program, files, key_logs) = ("import", &files[..], &key_logs[..]);
-        let asked = Asked { program, files, key_logs, is_reordered, is_joined, can_repeat: true };
+        let asked = Asked { program, files, key_logs, is_reordered, is_joined, bounds: BOUNDS, can_repeat: true };
         let mut map = MapFile::new(Some(map), is_joined);
         let mut sink = Sink::new(out, &mut map)?;
         imported(&asked, &mut sink, Some(&mut Courses::default()))?;
@@ -116,5 +119,20 @@ fn mutated_captures_that_are_cut() {
         let capture = cut(original, dice);
         let how = How { is_reordered: dice.below(4) == 0, is_joined: true };
         try_one(folder.path(), &changed(&capture, dice, &common::INTERESTING), b"", how);
+    });
+}
+
+/// Those of TLS, whose plaintext is searched for.
+#[test]
+fn mutated_captures_of_tls_that_are_cut() {
+    let folder = tempfile::tempdir().unwrap();
+    let read = |(capture, keys)| (fs::read(capture).unwrap(), fs::read(keys).unwrap_or_default());
+    let all = common::captures().into_iter().map(read);
+    let originals: Vec<(Vec<u8>, Vec<u8>)> = all.filter(|(_, keys)| !keys.is_empty()).collect();
+    mutations::each(1000, |dice| {
+        let (capture, keys) = dice.of_these(&originals);
+        let capture = cut(capture, dice);
+        let how = How { is_reordered: dice.below(4) == 0, is_joined: true };
+        try_one(folder.path(), &changed(&capture, dice, &common::INTERESTING), keys, how);
     });
 }

@@ -3,19 +3,19 @@
 use std::collections::VecDeque;
 
 use captures::{flags, swapped, Arrival, Ends};
-use cutter::{kind, Head, Nanos, HEADER, PREFACE};
+use cutter::Nanos;
 
 use crate::assumed::{credits_of, Assumed};
 use crate::beginning::{beginning_of, Stand};
 use crate::course::Course;
+use crate::first_bytes::{are_first, FRONT};
 use crate::handshake::{records_of, Made, Numbers};
 use crate::incoming::{Both, Piece};
 use crate::sides::Told;
+use crate::unjoined::Unjoined;
 
 pub const CLIENT: usize = 0;
 pub const SERVER: usize = 1;
-/// So many bytes of each flow are kept that may be the beginning of all.
-const FRONT: usize = PREFACE.len() + HEADER;
 /// A packet that was captured twice stands so close to its double; and of so many, one may.
 const MOST_BETWEEN: usize = 8;
 const FEW: u64 = 10;
@@ -72,31 +72,6 @@ pub struct Joined {
     pub records: Vec<Made>,
 }
 
-/// Why a connection is not joined.
-#[derive(Clone, Copy, Debug, PartialEq, Eq)]
-pub enum Unjoined {
-    /// It is encrypted.
-    Tls,
-    /// No frames of HTTP/2 were found.
-    NoFrames,
-    /// More streams were open than is followed.
-    ManyStreams,
-    /// More connections began before the capture than are followed.
-    ManyPairs,
-}
-
-impl Unjoined {
-    /// As the map says it.
-    pub fn word(self) -> &'static str {
-        match self {
-            Unjoined::Tls => "tls",
-            Unjoined::NoFrames => "no-frames",
-            Unjoined::ManyStreams => "many-streams",
-            Unjoined::ManyPairs => "many-pairs",
-        }
-    }
-}
-
 /// Joins the connection of two endpoints, of whose flows the first is the one that was seen first.
 pub struct Joiner {
     first: Arrival,
@@ -109,6 +84,8 @@ pub struct Joiner {
     has_payload: bool,
     /// Whether nothing has to be inferred.
     is_exact: bool,
+    /// Whether segments hold records of TLS, so that frames come as plaintext alone.
+    is_encrypted: bool,
     /// What each flow acknowledged last.
     acknowledged: [Option<u32>; 2],
     last: i64,
@@ -130,6 +107,7 @@ impl Joiner {
             answered: None,
             has_payload: false,
             is_exact: false,
+            is_encrypted: false,
             acknowledged: [None; 2],
             last: first.nanos,
             goes_back: false,
@@ -146,6 +124,30 @@ impl Joiner {
         if piece.flags & flags::RST != 0 {
             return;
         }
+        if !piece.payload.is_empty() {
+            self.look_for_doubles(flow, piece);
+        }
+        if !self.is_encrypted {
+            self.read(flow, piece);
+        }
+    }
+
+    /// What segments hold is encrypted: from here on they tell of TCP alone, and frames come as plaintext.
+    pub fn encrypted(&mut self) {
+        let (first, ends) = (self.first, self.ends);
+        let Joiner { goes_back, segments, doubled, last, .. } = *self;
+        let recent = std::mem::take(&mut self.recent);
+        *self = Joiner { goes_back, segments, doubled, last, recent, is_encrypted: true, ..Joiner::new(first, ends) };
+    }
+
+    /// Takes plaintext of a flow, with numbers that count it alone. The secret that opened it tells whose flow is the
+    /// client's.
+    pub fn opened(&mut self, client: usize, flow: usize, piece: &Piece<'_>) {
+        self.course.sides.secret(client);
+        self.read(flow, piece);
+    }
+
+    fn read(&mut self, flow: usize, piece: &Piece<'_>) {
         self.acknowledged[flow] = piece.acknowledgement.or(self.acknowledged[flow]);
         let is_answer = piece.flags & (flags::SYN | flags::ACK) == flags::SYN | flags::ACK;
         if let (true, false, Some(number)) = (is_answer, self.has_payload, piece.acknowledgement) {
@@ -154,7 +156,6 @@ impl Joiner {
         }
         if !piece.payload.is_empty() {
             self.has_payload = true;
-            self.look_for_doubles(flow, piece);
             self.keep_front(flow, piece);
         }
         self.both.begin(flow, piece);
@@ -162,6 +163,16 @@ impl Joiner {
             let course = &mut self.course;
             self.both.take(flow, piece, |flow, given| course.take(flow, given));
         }
+    }
+
+    /// Whether nothing has to be inferred, since both begin with their first bytes, or by a SYN ACK.
+    pub fn is_exact(&self) -> bool {
+        self.is_exact
+    }
+
+    /// Whether frames were found.
+    pub fn has_border(&self) -> bool {
+        self.both.flows.iter().any(|one| one.border().is_some())
     }
 
     /// Why it cannot be joined, whatever follows.
@@ -193,14 +204,9 @@ impl Joiner {
         recent.push_back(print);
     }
 
-    /// The flow of a client whose first bytes are there, if they are, and so are the server's: the preface and SETTINGS
-    /// of HTTP/2 (RFC 9113, 3.4), or the hellos of TLS (RFC 8446, 4.1).
+    /// The flow of a client whose first bytes are there, if they are, and so are the server's.
     fn client_from_the_beginning(&self) -> Option<usize> {
-        (0..2).find(|client| {
-            let [own, other] = [&self.fronts[*client][..], &self.fronts[1 - *client]];
-            let is_http2 = own.starts_with(PREFACE) && begins_with_settings(other);
-            is_http2 || is_hello(own, 1) && is_hello(other, 2)
-        })
+        (0..2).find(|client| are_first(&self.fronts[*client], &self.fronts[1 - *client]))
     }
 
     /// What the connection's segments tell, all of which came.
@@ -282,19 +288,4 @@ impl Joiner {
     fn joined(&self, client: usize, how: How, records: Vec<Made>) -> Joined {
         Joined { first: self.first, ends: self.ends_of(client), how, records }
     }
-}
-
-/// Whether a server's bytes begin so: SETTINGS, or the hello of TLS.
-pub fn is_first_of_server(bytes: &[u8]) -> bool {
-    begins_with_settings(bytes) || is_hello(bytes, 2)
-}
-
-fn begins_with_settings(bytes: &[u8]) -> bool {
-    let head = bytes.get(..HEADER).and_then(|header| <&[u8; HEADER]>::try_from(header).ok()).map(Head::of);
-    head.map_or(false, |head| (head.kind, head.flags, head.stream, head.length % 6) == (kind::SETTINGS, 0, 0, 0))
-}
-
-/// A record of TLS with the beginning of a hello: 1 is the client's, 2 the server's.
-fn is_hello(bytes: &[u8], kind: u8) -> bool {
-    matches!(bytes, [22, 3, 0..=3, _, _, first, ..] if *first == kind)
 }

@@ -2,9 +2,10 @@
 //! streams were open, and what credit each window must have had; and makes up a beginning with which plain h2audit audits
 //! the unaltered packets.
 //!
-//! [`Joiner`] takes the segments of a pair of endpoints that was not seen to open a connection, as [`Piece`]s; what is
-//! decrypted, or stands behind a gap, comes in the same way. [`Joiner::finish`] gives what is [`Joined`], or why nothing
-//! is. What is inferred has its evidence in bits and a [`Grade`] (docs/WHY.md).
+//! [`Joiner`] takes the segments of a pair of endpoints that was not seen to open a connection, as [`Piece`]s; what
+//! stands behind a gap comes in the same way, and so does the plaintext of TLS, beside its segments
+//! ([`Joiner::opened`]). [`Joiner::finish`] gives what is [`Joined`], or why nothing is. What is inferred has its
+//! evidence in bits and a [`Grade`] (docs/WHY.md).
 //!
 //! ```text
 //! incoming ─ border       the frames of both flows, in the order in which they came
@@ -23,17 +24,21 @@ mod beginning;
 mod border;
 mod course;
 mod evidence;
+mod first_bytes;
 mod frames;
 mod handshake;
 mod incoming;
 mod joiner;
 mod sides;
 mod streams;
+mod unjoined;
 mod usual;
 mod windows;
 
 pub use assumed::{Assumed, Grade, What};
+pub use first_bytes::is_first_of_server;
 pub use handshake::Made;
 pub use incoming::Piece;
-pub use joiner::{is_first_of_server, Border, How, Inferred, Joined, Joiner, Unjoined, CLIENT, SERVER};
+pub use joiner::{Border, How, Inferred, Joined, Joiner, CLIENT, SERVER};
 pub use sides::Told;
+pub use unjoined::Unjoined;

@@ -5,6 +5,8 @@ use hpack::Speaker;
 /// How that is known.
 #[derive(Clone, Copy, Debug, PartialEq, Eq)]
 pub enum Told {
+    /// By the label of the secret that opens the client's records of TLS (RFC 8446, 7.1).
+    Secret,
     /// By the pseudo-fields of a request or of a response (RFC 9113, 8.3).
     Fields,
     /// By a PUSH_PROMISE, which servers alone send (8.4).
@@ -25,6 +27,7 @@ impl Told {
     /// As the map says it.
     pub fn word(self) -> &'static str {
         match self {
+            Told::Secret => "secret",
             Told::Fields => "fields",
             Told::Promise => "promise",
             Told::EnablePush => "enable-push",
@@ -71,6 +74,10 @@ impl Sides {
         if self.client.map_or(true, |(_, before)| told.rank() < before.rank()) {
             self.client = Some((client, told));
         }
+    }
+
+    pub fn secret(&mut self, client: usize) {
+        self.tell(client, Told::Secret);
     }
 
     pub fn block(&mut self, flow: usize, speaker: Option<Speaker>) {

@@ -1,40 +1,68 @@
 //! Writes connections that began before the capture, when all else is written.
 
+use std::collections::BTreeMap;
+use std::io;
+
 use captures::{Arrival, Decoder, Packet, RAW};
-use joined::{How, Joined, Made, SERVER};
+use joined::{How, Made, SERVER};
 use programs::temporary_failure;
 
 use super::{Early, Importer};
-use crate::joining::{Joining, Waited};
-use crate::outcomes::{Fate, JoinedConnection};
+use crate::encrypted::Decrypted;
+use crate::followed::Found;
+use crate::joining::Joining;
+use crate::outcomes::{Fate, JoinedConnection, Outcome, Unopened};
 use crate::sink::Problem;
+use crate::table::Taken;
+use crate::waiting::Waited;
+
+/// What became of connections that began before the capture.
+#[derive(Default)]
+pub(super) struct Ended {
+    pub joined: Vec<JoinedConnection>,
+    /// Of each pair of endpoints, in the order of first segments.
+    fates: Vec<Fate>,
+    /// By pairs, those whose records were opened.
+    decrypted: BTreeMap<usize, Decrypted>,
+}
+
+impl Ended {
+    /// Completes what is known otherwise.
+    pub(super) fn complete(&mut self, outcomes: &mut [Outcome], unopened: &mut [Unopened]) {
+        unopened.iter_mut().zip(&self.fates).for_each(|(one, fate)| one.fate = *fate);
+        for (pair, Decrypted { became, last, .. }) in std::mem::take(&mut self.decrypted) {
+            if let Some(Fate::Joined(connection)) = self.fates.get(pair) {
+                (outcomes[*connection].became, outcomes[*connection].last) = (became, last);
+            }
+        }
+    }
+}
+
+fn failed(error: io::Error) -> Early {
+    Early::Problem(Problem::Failed(temporary_failure(&error)))
+}
 
 impl Importer<'_, '_> {
     /// Joins connections that began before the capture, behind all others: first what is made up for them, and then their
-    /// packets. Answers which are joined, and what became of each pair of endpoints.
-    pub(super) fn join(&mut self) -> Result<(Vec<JoinedConnection>, Vec<Fate>), Early> {
-        let mut fates = Vec::new();
+    /// packets.
+    pub(super) fn join(&mut self) -> Result<Ended, Early> {
+        let mut ended = Ended::default();
         let mut joining = match self.joining.take() {
             Some(joining) => joining,
-            None => return Ok((Vec::new(), fates)),
+            None => return Ok(ended),
         };
-        let mut joined = std::mem::take(&mut joining.joined);
+        ended.joined = std::mem::take(&mut joining.joined);
         self.table.finish_open(self.shared, self.sink);
-        while let Some(found) = joining.next(fates.len()) {
+        while let Some(found) = joining.next(self.shared, ended.fates.len()).map_err(failed)? {
             let fate = match found {
                 Err(why) => Fate::Unjoined(why),
-                Ok(found) => {
-                    let one = self.begin_joined(found)?;
-                    let connection = one.connection;
-                    joined.push(one);
-                    Fate::Joined(connection)
-                }
+                Ok(found) => self.begin_joined(found, &mut ended)?,
             };
-            fates.push(fate);
+            ended.fates.push(fate);
         }
-        self.take_waiting(joining, &fates)?;
-        joined.sort_by_key(|one| one.connection);
-        Ok((joined, fates))
+        self.take_waiting(joining, &ended)?;
+        ended.joined.sort_by_key(|one| one.connection);
+        Ok(ended)
     }
 
     /// Writes a SYN ACK that was lost.
@@ -47,10 +75,16 @@ impl Importer<'_, '_> {
     }
 
     /// Writes what is made up for a connection.
-    fn begin_joined(&mut self, found: Joined) -> Result<JoinedConnection, Early> {
-        let Joined { first, how, records, .. } = found;
-        let connection = self.made(first, &records)?;
-        Ok(JoinedConnection { connection, how, records: records.len() as u64 })
+    fn begin_joined(&mut self, found: Found, ended: &mut Ended) -> Result<Fate, Early> {
+        let Found { joined, decrypted } = found;
+        let connection = self.made(joined.first, &joined.records)?;
+        if let Some(decrypted) = decrypted {
+            self.courses.iter_mut().for_each(|courses| courses.begin(connection, decrypted.initial));
+            ended.decrypted.insert(ended.fates.len(), decrypted);
+        }
+        let records = joined.records.len() as u64;
+        ended.joined.push(JoinedConnection { connection, how: joined.how, records });
+        Ok(Fate::Joined(connection))
     }
 
     /// Writes records that are made up, and answers which connection they belong to.
@@ -71,22 +105,29 @@ impl Importer<'_, '_> {
         Ok(connection)
     }
 
-    /// Takes the packets of connections that are joined to these.
-    fn take_waiting(&mut self, joining: Joining, fates: &[Fate]) -> Result<(), Early> {
-        let failed = |error: std::io::Error| Early::Problem(Problem::Failed(temporary_failure(&error)));
+    /// Takes the packets of connections that are joined to these. Of those whose records were opened, packets tell of TCP
+    /// alone.
+    fn take_waiting(&mut self, joining: Joining, ended: &Ended) -> Result<(), Early> {
         let mut waiting = match joining.packets().map_err(failed)? {
             Some(waiting) => waiting,
             None => return Ok(()),
         };
         let mut decoder = Decoder::default();
-        while let Some(Waited { pair, arrival, packet }) = waiting.next().map_err(failed)? {
-            if !matches!(fates.get(pair), Some(Fate::Joined(_))) {
+        while let Some(Waited { pair, arrival, is_plaintext, packet }) = waiting.next().map_err(failed)? {
+            if !matches!(ended.fates.get(pair), Some(Fate::Joined(_))) {
                 continue;
             }
-            if let Ok(segment) = decoder.segment(&packet)? {
-                if let Ok(taken) = self.table.take(self.shared, self.sink, arrival, &segment) {
-                    self.courses.iter_mut().for_each(|courses| courses.take(&taken, arrival, &segment));
-                }
+            let segment = match decoder.segment(&packet)? {
+                Ok(segment) => segment,
+                Err(_) => continue,
+            };
+            let is_written = is_plaintext || !ended.decrypted.contains_key(&pair);
+            let taken = match is_written {
+                true => self.table.take(self.shared, self.sink, arrival, &segment).ok(),
+                false => self.table.sender(&segment.ends).map(|sender| Taken { sender, opens: false }),
+            };
+            if let Some(taken) = taken.filter(|_| !is_plaintext) {
+                self.courses.iter_mut().for_each(|courses| courses.take(&taken, arrival, &segment));
             }
         }
         Ok(())

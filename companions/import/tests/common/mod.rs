@@ -8,7 +8,7 @@ use std::io::{self, Write};
 use std::path::{Path, PathBuf};
 
 use captures::{pcap, RAW};
-use import::{imported, Asked, Courses, Listener, Record, Sink, Summary, Target};
+use import::{imported, Asked, Bounds, Courses, Listener, Record, Sink, Summary, Target};
 use programs::Failure;
 
 pub const INTERESTING: [&[u8]; 8] = [
@@ -137,6 +137,7 @@ pub fn import_in<T: Default>(
         key_logs: &key_logs,
         is_reordered,
         is_joined: false,
+        bounds: Bounds::default(),
         can_repeat: true,
     };
     let summary = imported(&asked, &mut sink, courses)?;

@@ -1,0 +1,26 @@
+//! What keeps a connection from being joined.
+
+/// Why a connection is not joined.
+#[derive(Clone, Copy, Debug, PartialEq, Eq)]
+pub enum Unjoined {
+    /// It is encrypted, in a way that is not opened.
+    Tls,
+    /// No frames of HTTP/2 were found.
+    NoFrames,
+    /// More streams were open than is followed.
+    ManyStreams,
+    /// More connections began before the capture than are followed.
+    ManyPairs,
+}
+
+impl Unjoined {
+    /// As the map says it.
+    pub fn word(self) -> &'static str {
+        match self {
+            Unjoined::Tls => "tls",
+            Unjoined::NoFrames => "no-frames",
+            Unjoined::ManyStreams => "many-streams",
+            Unjoined::ManyPairs => "many-pairs",
+        }
+    }
+}
