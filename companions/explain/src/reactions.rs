@@ -89,13 +89,16 @@ impl Quickest {
     }
 }
 
+/// SETTINGS: frame, time, and initial window.
+type Asked = (u32, Nanos, Option<u32>);
+
 /// What is awaited of a connection's sides.
 #[derive(Debug, Default)]
 pub struct Reactions {
     pub quickest: [Quickest; 2],
     pub acknowledged: [u32; 2],
-    /// SETTINGS that wait for an acknowledgement: frame, time, and initial window.
-    settings: [Option<VecDeque<(u32, Nanos, Option<u32>)>>; 2],
+    /// SETTINGS that wait for an acknowledgement; nothing where none do.
+    settings: [Option<VecDeque<Asked>>; 2],
     /// How many wait behind those.
     more_settings: [u32; 2],
     pings: HashMap<(usize, [u8; PING]), Nanos>,
@@ -215,7 +218,7 @@ impl Reactions {
         self.watched = Vec::new();
     }
 
-    fn asked(&mut self, side: usize, settings: (u32, Nanos, Option<u32>)) {
+    fn asked(&mut self, side: usize, settings: Asked) {
         let waiting = self.settings[side].get_or_insert_with(|| VecDeque::with_capacity(1));
         if self.more_settings[side] == 0 && waiting.len() < MOST_SETTINGS {
             waiting.push_back(settings);
