@@ -346,9 +346,7 @@ class Tally:
             for stall, packet, time, _ in one.stalls
             if packet >= at
         }
-        begun = {
-            (stall.side, stall.stream, end) for stall, packet, _, end in one.stalls if packet < at <= (end or 0)
-        }
+        begun = {(stall.side, stall.stream, end) for stall, packet, _, end in one.stalls if packet < at <= (end or 0)}
         said = set()
         for stall, _, time, end in audit.stalls:
             if stall.begin <= found.made:

@@ -19,6 +19,7 @@ pub fn read_map(path: &Path) -> Result<Original, Failure> {
         Ok(()) => {}
         Err(Broken::Io(error)) => return Err(Failure::of_file(path, &error)),
         Err(Broken::NoMap) => return Err(no_map("no map of h2audit-import, version 1")),
+        Err(Broken::Joined) => return Err(no_map(&MapError::Version(2).to_string())),
     }
     match reading.files {
         1 => Ok(reading.original),
@@ -28,6 +29,7 @@ pub fn read_map(path: &Path) -> Result<Original, Failure> {
 
 enum Broken {
     NoMap,
+    Joined,
     Io(std::io::Error),
 }
 
@@ -35,6 +37,7 @@ impl From<MapError> for Broken {
     fn from(error: MapError) -> Broken {
         match error {
             MapError::Io(error) => Broken::Io(error),
+            MapError::Version(2) => Broken::Joined,
             _ => Broken::NoMap,
         }
     }

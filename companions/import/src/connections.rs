@@ -19,6 +19,7 @@ struct Arrived {
     arrival: Arrival,
     side: usize,
     segment: HeldSegment,
+    is_made: bool,
 }
 
 /// What is known of a connection's bytes.
@@ -191,7 +192,7 @@ impl Connection {
         }
         let mut undecided = begun.unwrap_or_default();
         undecided.cost += segment.datagram_length();
-        undecided.held.push(Arrived { arrival, side, segment: segment.held() });
+        undecided.held.push(Arrived { arrival, side, segment: segment.held(), is_made: sink.is_made });
         // The answer places what its server sent before it; one that is repeated places nothing new.
         let from = if is_answer { 0 } else { undecided.held.len() - 1 };
         match self.look_at(&mut undecided, side, from) {
@@ -246,20 +247,27 @@ impl Connection {
             None => Mode::Clear,
             Some(preamble) => Mode::Behind(Box::new(Shift::new(preamble.lengths))),
         };
+        let is_made = sink.is_made;
         for one in &held {
+            sink.is_made = one.is_made;
             self.emit(sink, one.arrival, one.side, &one.segment.segment());
         }
+        sink.is_made = is_made;
     }
 
     fn go_on_tls(&mut self, shared: &mut Shared, sink: &mut Sink<'_>, held: Vec<Arrived>) {
         self.mode = Mode::Tls(Box::new(tls::Connection::new(self.number() as u64, shared)));
+        let is_made = sink.is_made;
         for one in held {
             let segment = one.segment.segment();
+            sink.is_made = one.is_made;
             if segment.flags & flags::SYN != 0 {
                 sink.emit(one.arrival, self.sender(one.side), Written::headers(&segment, &mut Vec::new()));
             }
+            sink.is_made = false;
             self.take_tls(shared, sink, one.arrival, one.side, &segment);
         }
+        sink.is_made = is_made;
     }
 
     // TLS
@@ -348,7 +356,7 @@ impl Connection {
     fn hold(&mut self, arrival: Arrival, side: usize, segment: &Segment<'_>) {
         self.cost += segment.datagram_length();
         if self.cost <= MOST_HELD {
-            self.held.push(Arrived { arrival, side, segment: segment.held() });
+            self.held.push(Arrived { arrival, side, segment: segment.held(), is_made: false });
         } else {
             self.held = Vec::new();
         }

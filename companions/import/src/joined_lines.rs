@@ -46,6 +46,9 @@ fn about_streams(inferred: &Inferred) -> Vec<String> {
         if inferred.acknowledged[side] > 0 {
             lines.push(format!("settings-before {} {}", SIDES[side], inferred.acknowledged[side]));
         }
+        if let Some(time) = inferred.changed[side] {
+            lines.push(format!("changed {} time {time}", SIDES[side]));
+        }
         if inferred.longest[side] > USUAL_FRAME {
             lines.push(format!("frame-size {} {}", SIDES[side], inferred.longest[side]));
         }

@@ -142,11 +142,11 @@ impl Open {
         Open { id, evidence, is_refused: window.is_refused, least: window.least }
     }
 
-    /// Where all contents are 2^k - 1 bytes, the stream's window is the likely reason.
+    /// Where all contents, or the bound, are 2^k - 1 bytes, the stream's window is the likely reason.
     fn add_bits(&mut self, sender: &Sender) {
         for evidence in self.evidence.iter_mut().filter(|one| one.touches > 0) {
             evidence.alone = evidence.if_one_is_little(evidence.alone);
-            if sender.are_windows() {
+            if sender.are_windows() || evidence.least().map_or(false, is_window) {
                 evidence.alone += OF_WINDOWS;
             }
         }

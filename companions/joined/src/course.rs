@@ -82,7 +82,7 @@ impl Course {
             kind::HEADERS => self.headers(flow, cut, last),
             kind::PRIORITY => self.sides.priority(flow),
             kind::RST_STREAM => self.reset(flow, cut),
-            kind::SETTINGS => self.settings(flow, cut),
+            kind::SETTINGS => self.settings(flow, cut, last),
             kind::PUSH_PROMISE => self.promise(flow, cut),
             kind::GOAWAY => self.go_away(flow, cut),
             kind::WINDOW_UPDATE => self.grant(flow, cut, last),
@@ -171,11 +171,11 @@ impl Course {
         self.senders[1 - flow].is_refused |= number(4) == Some(FLOW_CONTROL_ERROR);
     }
 
-    fn settings(&mut self, flow: usize, cut: &Cut<'_>) {
+    fn settings(&mut self, flow: usize, cut: &Cut<'_>, time: Nanos) {
         if cut.head.has(flag::ACK) {
             match self.waiting[1 - flow].pop_front() {
                 None => self.acknowledged_before[flow] = self.acknowledged_before[flow].saturating_add(1),
-                Some(initial) => initial.into_iter().for_each(|initial| self.senders[flow].change(initial)),
+                Some(initial) => initial.into_iter().for_each(|initial| self.senders[flow].change(time, initial)),
             }
             return;
         }

@@ -3,7 +3,7 @@
 use std::collections::VecDeque;
 
 use captures::{flags, swapped, Arrival, Ends};
-use cutter::{kind, Head, HEADER, PREFACE};
+use cutter::{kind, Head, Nanos, HEADER, PREFACE};
 
 use crate::assumed::{credits_of, Assumed};
 use crate::beginning::{beginning_of, Stand};
@@ -46,6 +46,8 @@ pub struct Inferred {
     /// SETTINGS from before that each side acknowledges; and the longest frame of each.
     pub acknowledged: [u32; 2],
     pub longest: [u32; 2],
+    /// When each side first acknowledged an initial window that was seen: from then on it is known of streams that opened.
+    pub changed: [Option<Nanos>; 2],
     /// The streams that were open, in rising order.
     pub open: Vec<u32>,
     /// Whether nothing may be claimed: times go back, or packets stand twice.
@@ -243,6 +245,7 @@ impl Joiner {
             made: script.frames,
             acknowledged: stand.acknowledged_later,
             longest: stand.longest,
+            changed: flows.map(|flow| self.course.senders[flow].changed),
             open: self.course.streams.open().map(|(id, _)| id).collect(),
             assumed: stand.credits.into_iter().flat_map(|credits| credits.assumed).collect(),
             is_doubtful,

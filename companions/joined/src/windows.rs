@@ -25,10 +25,11 @@ pub struct Sender {
     pub connection: Evidence,
     /// Of the initial window that was in force at the beginning, by the streams that opened since.
     pub initial: Evidence,
-    /// The initial window that is in force since settings that were seen, the least that ever was, and how often it
-    /// changed.
+    /// The initial window that is in force since settings that were seen, the least that ever was, when it first changed,
+    /// and how often.
     in_force: Option<i64>,
     pub least_in_force: Option<i64>,
+    pub changed: Option<Nanos>,
     changes: u32,
     /// Whether the other side answered FLOW_CONTROL_ERROR on the connection, and on a stream that opened since.
     pub is_refused: bool,
@@ -90,7 +91,8 @@ impl Sender {
     }
 
     /// The other side's settings are in force from here on.
-    pub fn change(&mut self, initial: u32) {
+    pub fn change(&mut self, time: Nanos, initial: u32) {
+        self.changed.get_or_insert(time);
         let initial = i64::from(initial);
         self.in_force = Some(initial);
         self.least_in_force = Some(self.least_in_force.map_or(initial, |least| least.min(initial)));
@@ -308,8 +310,10 @@ mod tests {
     #[test]
     fn a_stream_that_touches_its_bound_alone() {
         let (mut sender, mut window) = open();
+        sender.content(None, content(0, 9000));
+        sender.grant(500, 100_000);
         for at in 0..4 {
-            round(&mut sender, &mut window, at * ROUND, &[1000, 500], [100_000, 1500]);
+            round(&mut sender, &mut window, at * ROUND, &[1000, 500], [0, 1500]);
         }
         let evidence = &window.open.expect("open")[0];
         assert_eq!((evidence.least(), evidence.touches), (Some(1500), 3));
@@ -353,7 +357,7 @@ mod tests {
             round(&mut sender, &mut window, (at * 10 + 2) * MS, &[1023], [0, 0]);
         }
         assert_eq!((sender.initial.least(), sender.initial.touches), (Some(1023), 3));
-        sender.change(500);
+        sender.change(0, 500);
         let mut window = Window::opened(true);
         round(&mut sender, &mut window, 60 * MS, &[9999], [0, 0]);
         assert_eq!(sender.initial.least(), Some(1023), "what is announced is known");
@@ -363,7 +367,7 @@ mod tests {
     fn an_open_stream_before_and_after_a_change() {
         let (mut sender, mut window) = open();
         round(&mut sender, &mut window, 0, &[1000], [0, 0]);
-        sender.change(4000);
+        sender.change(0, 4000);
         round(&mut sender, &mut window, MS, &[3500], [0, 0]);
         let [before, after] = *window.open.expect("open");
         assert_eq!((before.least(), after.least()), (Some(1000), Some(500)));

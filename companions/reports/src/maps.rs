@@ -26,6 +26,7 @@ impl fmt::Display for MapError {
     fn fmt(&self, to: &mut fmt::Formatter<'_>) -> fmt::Result {
         match self {
             MapError::NoMap => to.write_str("not a map of h2audit-import"),
+            MapError::Version(2) => to.write_str("a map of connections that were joined (--joined) is not read here"),
             MapError::Version(version) => write!(to, "version {version} of the map is unknown: this is for version 1"),
             MapError::NoLine(number) => write!(to, "line {number} is no line of a map"),
             MapError::Io(error) => error.fmt(to),
@@ -161,8 +162,10 @@ mod tests {
         let refused = |text: &[u8]| MapReader::new(text).err().map(|error| error.to_string());
         assert_eq!(refused(b"").as_deref(), Some("not a map of h2audit-import"));
         assert_eq!(refused(b"\xff\n").as_deref(), Some("not a map of h2audit-import"));
-        let version = "version 2 of the map is unknown: this is for version 1";
-        assert_eq!(refused(b"h2audit-map 2\n").as_deref(), Some(version));
+        let version = "version 3 of the map is unknown: this is for version 1";
+        assert_eq!(refused(b"h2audit-map 3\n").as_deref(), Some(version));
+        let joined = "a map of connections that were joined (--joined) is not read here";
+        assert_eq!(refused(b"h2audit-map 2\n").as_deref(), Some(joined));
         let mut reader = MapReader::new(&b"h2audit-map 1\nrecord 1 packet 2\n"[..]).ok();
         let said = reader.as_mut().and_then(|reader| reader.next_line().err()).map(|error| error.to_string());
         assert_eq!(said.as_deref(), Some("line 2 is no line of a map"));
