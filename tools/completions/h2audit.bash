@@ -61,7 +61,7 @@ _h2audit_page() {
 
 _h2audit_import() {
     local word=${COMP_WORDS[COMP_CWORD]} before=${COMP_WORDS[COMP_CWORD - 1]}
-    local options='--key-log -k --jobs -j --sort --reorder --output -o --map -m --help -h --version -V'
+    local options='--key-log -k --jobs -j --sort --reorder --joined --output -o --map -m --help -h --version -V'
     [[ $word == = ]] && word=
     [[ $before == = ]] && before=${COMP_WORDS[COMP_CWORD - 2]}
     case $before in

@@ -102,6 +102,7 @@ try 'forms of captures' import_forms_test
 try 'cipher suites, resumption, PSK, early data' import_tls_test "${audits[@]}"
 try 'what h2audit-any says of an original' any_test "${audits[@]}"
 try_built 'reports of earlier imports' import_map_test "$built"
+try_built 'connections that began before the capture' joined_test "$built"
 try 'mutated captures and key logs' import_mutations_test
 try 'imports: what was once read wrongly, preambles' import_corpus_test
 try 'imports: memory and work' import_limits_test

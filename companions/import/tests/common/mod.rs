@@ -44,6 +44,17 @@ pub fn captures() -> Vec<(PathBuf, PathBuf)> {
     found
 }
 
+/// Captures of HTTP/2 in the clear.
+pub fn in_the_clear() -> Vec<PathBuf> {
+    let folders = ["examples", "tests/answer"].into_iter();
+    let entries = folders.flat_map(|folder| fs::read_dir(top().join(folder)).unwrap());
+    let paths = entries.map(|entry| entry.unwrap().path()).filter(|path| path.extension() == Some(OsStr::new("pcap")));
+    let mut found: Vec<_> = paths.collect();
+    found.sort();
+    assert!(found.len() > 20);
+    found
+}
+
 /// What is made, in memory.
 #[derive(Default)]
 pub struct Made(pub Vec<u8>);
@@ -120,7 +131,14 @@ pub fn import_in<T: Default>(
     let files: Vec<OsString> = paths.iter().map(OsString::from).collect();
     let key_logs: Vec<OsString> = keys.exists().then(|| keys.into()).into_iter().collect();
     let mut sink = Sink::new(&mut made, &mut listener)?;
-    let asked = Asked { program: "import", files: &files, key_logs: &key_logs, is_reordered, is_joined: false, can_repeat: true };
+    let asked = Asked {
+        program: "import",
+        files: &files,
+        key_logs: &key_logs,
+        is_reordered,
+        is_joined: false,
+        can_repeat: true,
+    };
     let summary = imported(&asked, &mut sink, courses)?;
     drop(sink);
     Ok((made.0, listener.state, summary))
