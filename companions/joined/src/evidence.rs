@@ -51,25 +51,13 @@ impl Pause {
 
     /// Whether content that comes then ends a pause that a grant ended; `spoken` is when the other side sent something
     /// else that the content may answer.
-    pub fn touch(&self, content: Nanos, spoken: Option<Nanos>, usual: &Usual) -> Option<Touch> {
+    pub fn touch(&self, content: Nanos, spoken: Option<Nanos>) -> Option<Touch> {
         let granted = self.granted?;
         if spoken.map_or(false, |spoken| spoken >= self.since) {
             return None;
         }
         let (pause, delay) = (granted.saturating_sub(self.since), content.saturating_sub(granted));
-        let gap = usual.gap();
-        let is_pause = pause >= LEAST_PAUSE && pause as f64 >= LEAST_GAPS * gap;
-        let is_soon = delay <= SOON.max(pause / 2);
-        let (most_of_gap, short) = match self.length {
-            None => (8.0, 0.0),
-            Some(_) if self.is_end => (6.0, 0.0),
-            Some(length) => (6.0, usual.bits_of_short(length)),
-        };
-        let of_gap = (pause as f64 / gap).log2().clamp(0.0, most_of_gap);
-        let of_delay = (pause as f64 / delay.max(1) as f64).log2().clamp(0.0, 5.0);
-        let bits = if is_pause && is_soon { of_gap + of_delay } else { 0.0 } + short;
-        let is_short = !self.is_end && self.length.map_or(false, |length| usual.is_short(length));
-        Some(Touch { pause, is_soon, length: self.length, bits, has_short: short > 0.0, is_short })
+        Some(Touch { pause, delay, length: self.length, is_end: self.is_end })
     }
 }
 
@@ -77,14 +65,43 @@ impl Pause {
 #[derive(Clone, Copy, Debug)]
 pub struct Touch {
     pub pause: Nanos,
-    is_soon: bool,
-    /// Of the content before it.
+    /// From the grant to the next content.
+    delay: Nanos,
+    /// Of the content before it, which may end its stream.
     pub length: Option<u32>,
-    /// What it is worth if it is the first one.
-    pub bits: f64,
-    has_short: bool,
+    is_end: bool,
+}
+
+impl Touch {
+    /// Whether content followed the grant at once.
+    fn is_soon(&self) -> bool {
+        self.delay <= SOON.max(self.pause / 2)
+    }
+
     /// Whether the content before it was shorter than the longest, as what fills a window is.
-    is_short: bool,
+    fn is_short(&self, usual: &Usual) -> bool {
+        !self.is_end && self.length.map_or(false, |length| usual.is_short(length))
+    }
+
+    /// What is told by how short the content before it was.
+    fn of_short(&self, usual: &Usual) -> f64 {
+        match self.length {
+            Some(length) if !self.is_end => usual.bits_of_short(length),
+            _ => 0.0,
+        }
+    }
+
+    /// What it is worth if it is the first one.
+    pub fn bits(&self, usual: &Usual) -> f64 {
+        let (pause, gap) = (self.pause as f64, usual.gap());
+        let short = self.of_short(usual);
+        if self.pause < LEAST_PAUSE || pause < LEAST_GAPS * gap || !self.is_soon() {
+            return short;
+        }
+        let most_of_gap = if self.length.is_none() { 8.0 } else { 6.0 };
+        let of_delay = (pause / self.delay.max(1) as f64).log2().clamp(0.0, 5.0);
+        (pause / gap).log2().clamp(0.0, most_of_gap) + of_delay + short
+    }
 }
 
 /// What is known of one window.
@@ -121,6 +138,12 @@ impl Evidence {
             Some(low) if after == low => return Bound::Old,
             _ => {}
         }
+        if self.touches == 0 && self.silent == 0.0 {
+            self.low = Some(after);
+            self.before = before;
+            self.turn = self.turn.wrapping_add(1);
+            return Bound::New;
+        }
         let bits = self.alone + self.shared;
         let passed = match self.low {
             Some(low) if bits >= LIKELY => Some((low, bits)),
@@ -133,20 +156,21 @@ impl Evidence {
     }
 
     /// What a touch is worth here, which counts it.
-    pub fn worth(&mut self, touch: &Touch) -> f64 {
+    pub fn worth(&mut self, touch: &Touch, usual: &Usual) -> f64 {
         let length = touch.length.unwrap_or(0);
+        let is_soon = touch.is_soon();
         let bits = match self.last {
-            None => touch.bits,
-            Some(last) if last != length && (touch.is_soon || touch.is_short) => 5.0,
-            Some(_) if touch.is_soon && length % 1024 != 0 => 3.0,
-            Some(_) if touch.is_soon || self.slow < MOST_SLOW => 1.0,
+            None => touch.bits(usual),
+            Some(last) if last != length && (is_soon || touch.is_short(usual)) => 5.0,
+            Some(_) if is_soon && length % 1024 != 0 => 3.0,
+            Some(_) if is_soon || self.slow < MOST_SLOW => 1.0,
             Some(_) => 0.0,
         };
-        self.slow += u8::from(!touch.is_soon && self.slow < MOST_SLOW);
+        self.slow += u8::from(!is_soon && self.slow < MOST_SLOW);
+        self.has_short |= self.last.is_none() && touch.of_short(usual) > 0.0;
         self.last = Some(length);
         self.touches = self.touches.saturating_add(1);
         self.longest = self.longest.max(touch.pause);
-        self.has_short |= touch.has_short;
         bits
     }
 
@@ -193,11 +217,11 @@ mod tests {
         let mut one = Pause::behind(0, 1000, false);
         one.grant(pause);
         one.grant(pause + 1);
-        one.touch(pause + delay, spoken, &usual())
+        one.touch(pause + delay, spoken)
     }
 
     fn bits(pause: Nanos, delay: Nanos) -> Option<f64> {
-        touch(pause, delay, None).map(|touch| touch.bits)
+        touch(pause, delay, None).map(|touch| touch.bits(&usual()))
     }
 
     #[test]
@@ -207,7 +231,7 @@ mod tests {
         assert!(bits(20_480, 10_240).map_or(false, |bits| (5.0..5.5).contains(&bits)));
         assert_eq!(bits(100 * MS, 60 * MS), Some(0.0), "content came late");
         assert_eq!(bits(100 * MS, 50 * MS), Some(7.0));
-        assert_eq!(Pause::behind(0, 9, false).touch(MS, None, &usual()).map(|touch| touch.bits), None, "no grant");
+        assert_eq!(Pause::behind(0, 9, false).touch(MS, None).map(|touch| touch.pause), None, "no grant");
         assert!(touch(MS, 1, Some(0)).is_none() && touch(MS, 1, Some(-1)).is_some(), "an answer");
     }
 
@@ -218,11 +242,11 @@ mod tests {
         let of = |length, delay| {
             let mut pause = Pause::behind(0, length, false);
             pause.grant(MS);
-            pause.touch(MS + delay, None, &usual()).expect("a touch")
+            pause.touch(MS + delay, None).expect("a touch")
         };
         let found: Vec<_> = [of(999, 1), of(999, 1), of(2048, 1), of(2048, 1), of(77, 600_000), of(77, 600_000)]
             .iter()
-            .map(|touch| evidence.worth(touch))
+            .map(|touch| evidence.worth(touch, &usual()))
             .collect();
         assert_eq!(found, [11.0, 3.0, 5.0, 1.0, 5.0, 1.0]);
         assert_eq!(evidence.touches, 6);

@@ -113,14 +113,14 @@ impl Sender {
         let mut window = window.filter(|window| window.is_live);
         let spoken = window.as_ref().and_then(|window| window.spoken);
         let touched = Touched {
-            connection: self.pause.and_then(|pause| pause.touch(content.first, spoken, &self.usual)),
+            connection: self.pause.and_then(|pause| pause.touch(content.first, spoken)),
             stream: window.as_ref().and_then(|window| self.touch_of(window, content.first)),
         };
         if let Some(window) = &mut window {
             self.tell_stream(window, touched);
             self.lower_stream(window, content);
         } else if let Some(touch) = touched.connection {
-            tell(&mut self.connection, &touch);
+            tell(&mut self.connection, &touch, &self.usual);
         }
         let before = self.credit;
         self.credit -= i64::from(content.length);
@@ -132,53 +132,40 @@ impl Sender {
     /// Whether content ends a pause of a stream's window.
     fn touch_of(&self, window: &Window, content: Nanos) -> Option<Touch> {
         let pause = window.pause.filter(|_| window.change == self.changes)?;
-        pause.touch(content, window.spoken, &self.usual)
-    }
-
-    /// What is known of a stream's window, if anything of it is unknown; and its credit beside that.
-    fn evidence<'a>(&'a mut self, window: &'a mut Window) -> (Option<&'a mut Evidence>, i64) {
-        let credit = window.credit + self.in_force.unwrap_or(0);
-        let evidence = match (&mut window.open, self.in_force) {
-            (Some(open), in_force) => Some(&mut open[usize::from(in_force.is_some())]),
-            (None, None) => Some(&mut self.initial),
-            (None, Some(_)) => None,
-        };
-        (evidence, credit)
+        pause.touch(content, window.spoken)
     }
 
     /// Takes what a pause tells to the windows that were at their bounds.
     fn tell_stream(&mut self, window: &mut Window, touched: Touched) {
-        let mut connection = std::mem::take(&mut self.connection);
-        match (touched.connection, touched.stream, self.evidence(window)) {
+        let Sender { connection, initial, in_force, usual, .. } = self;
+        match (touched.connection, touched.stream, evidence(initial, *in_force, window)) {
+            (None, None, _) => {}
             (Some(of_connection), Some(of_stream), (Some(evidence), _)) => {
-                tell_both(&mut connection, evidence, [&of_connection, &of_stream]);
+                tell_both(connection, evidence, [&of_connection, &of_stream], usual);
             }
-            (_, Some(touch), (Some(evidence), _)) => tell(evidence, &touch),
+            (_, Some(touch), (Some(evidence), _)) => tell(evidence, &touch, usual),
             // A window that is known explains the pause by itself.
             (Some(_), Some(_), (None, credit)) if credit <= 0 => {}
-            (Some(touch), _, _) => tell(&mut connection, &touch),
-            _ => {}
+            (Some(touch), _, _) => tell(connection, &touch, usual),
+            (None, Some(_), (None, _)) => {}
         }
-        self.connection = connection;
     }
 
     fn lower_stream(&mut self, window: &mut Window, content: Content) {
         window.change = self.changes;
         let length = i64::from(content.length);
-        let mut connection = std::mem::take(&mut self.connection);
-        let (evidence, credit) = self.evidence(window);
+        let (evidence, credit) = evidence(&mut self.initial, self.in_force, window);
         let after = credit - length;
         let bound = match evidence {
             Some(evidence) => {
                 if evidence.low.map_or(true, |low| after < low) {
-                    give_back(&mut connection, evidence);
+                    give_back(&mut self.connection, evidence);
                 }
                 evidence.content(credit, after)
             }
             None if after <= 0 => Bound::Old,
             None => Bound::None,
         };
-        self.connection = connection;
         window.credit -= length;
         window.least = window.least.min(window.credit);
         window.pause = pause_at(bound, content);
@@ -201,6 +188,21 @@ impl Sender {
     }
 }
 
+/// What is known of a stream's window, if anything of it is unknown; and its credit beside that.
+fn evidence<'a>(
+    initial: &'a mut Evidence,
+    in_force: Option<i64>,
+    window: &'a mut Window,
+) -> (Option<&'a mut Evidence>, i64) {
+    let credit = window.credit + in_force.unwrap_or(0);
+    let evidence = match (&mut window.open, in_force) {
+        (Some(open), in_force) => Some(&mut open[usize::from(in_force.is_some())]),
+        (None, None) => Some(initial),
+        (None, Some(_)) => None,
+    };
+    (evidence, credit)
+}
+
 fn pause_at(bound: Bound, content: Content) -> Option<Pause> {
     match bound {
         Bound::None => None,
@@ -209,18 +211,19 @@ fn pause_at(bound: Bound, content: Content) -> Option<Pause> {
 }
 
 /// One window alone was at its bound.
-fn tell(evidence: &mut Evidence, touch: &Touch) {
+fn tell(evidence: &mut Evidence, touch: &Touch, usual: &Usual) {
     if touch.length.is_none() {
-        evidence.silent = touch.bits;
+        evidence.silent = touch.bits(usual);
     } else {
-        evidence.alone += evidence.worth(touch);
+        evidence.alone += evidence.worth(touch, usual);
     }
 }
 
 /// Both were: each may explain it.
-fn tell_both(connection: &mut Evidence, stream: &mut Evidence, [of_connection, of_stream]: [&Touch; 2]) {
+fn tell_both(connection: &mut Evidence, stream: &mut Evidence, touches: [&Touch; 2], usual: &Usual) {
+    let [of_connection, of_stream] = touches;
     if of_stream.length.is_none() || of_connection.length.is_none() {
-        return tell(stream, of_stream);
+        return tell(stream, of_stream, usual);
     }
     if stream.of_turn != connection.turn {
         stream.alone += stream.shared;
@@ -228,10 +231,10 @@ fn tell_both(connection: &mut Evidence, stream: &mut Evidence, [of_connection, o
         stream.lent = 0.0;
         stream.of_turn = connection.turn;
     }
-    let lent = connection.worth(of_connection);
+    let lent = connection.worth(of_connection, usual);
     connection.shared += lent;
     stream.lent += lent;
-    stream.shared += stream.worth(of_stream);
+    stream.shared += stream.worth(of_stream, usual);
 }
 
 /// A stream's window was not at its bound after all, so the connection's alone was.
