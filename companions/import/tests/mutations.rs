@@ -112,7 +112,8 @@ fn mutated_captures_that_are_cut() {
     let folder = tempfile::tempdir().unwrap();
     let originals: Vec<Vec<u8>> = common::in_the_clear().iter().map(|path| fs::read(path).unwrap()).collect();
     mutations::each(3000, |dice| {
-        let capture = cut(dice.of_these(&originals), dice);
+        let original: &Vec<u8> = dice.of_these(&originals);
+        let capture = cut(original, dice);
         let how = How { is_reordered: dice.below(4) == 0, is_joined: true };
         try_one(folder.path(), &changed(&capture, dice, &common::INTERESTING), b"", how);
     });

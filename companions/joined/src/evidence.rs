@@ -256,7 +256,7 @@ mod tests {
     fn what_raises_the_bound_makes_evidence_void() {
         let mut evidence = Evidence::default();
         evidence.content(0, -100);
-        evidence.alone = 9.0;
+        (evidence.alone, evidence.touches) = (9.0, 2);
         assert_eq!(evidence.content(-50, -99), Bound::None);
         assert_eq!(evidence.content(-50, -100), Bound::Old);
         assert_eq!((evidence.alone, evidence.least()), (9.0, Some(100)));

@@ -321,7 +321,7 @@ mod tests {
         let evidence = &window.open.expect("open")[0];
         assert_eq!((evidence.least(), evidence.touches), (Some(1500), 3));
         assert!(evidence.alone > LIKELY && evidence.shared == 0.0, "{evidence:?}");
-        assert_eq!(sender.connection.touches, 0);
+        assert_eq!(sender.connection.least(), Some(9000));
     }
 
     #[test]
