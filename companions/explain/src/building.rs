@@ -28,6 +28,8 @@ pub struct Asked<'a> {
     pub key_logs: &'a [OsString],
     /// Whether packets are put in order of time.
     pub is_reordered: bool,
+    /// Whether connections that began before the capture are joined.
+    pub is_joined: bool,
     /// The program that audits, where it is named, and its options.
     pub h2audit: Option<OsString>,
     pub options: &'a [String],
@@ -113,8 +115,8 @@ fn make(asked: &Asked<'_>, keeping: Option<Keeping>) -> Result<(Made, Option<Kee
     let mut listening = Listening { learning: Learning::new()?, keeping };
     let mut courses = Courses::default();
     let mut sink = Sink::new(&mut capture, &mut listening)?;
-    let Asked { program, files, key_logs, is_reordered, .. } = *asked;
-    let import = import::Asked { program, files, key_logs, is_reordered, is_joined: false, can_repeat: true };
+    let Asked { program, files, key_logs, is_reordered, is_joined, .. } = *asked;
+    let import = import::Asked { program, files, key_logs, is_reordered, is_joined, can_repeat: true };
     let summary = import::imported(&import, &mut sink, Some(&mut courses))?;
     drop(sink);
     if summary.counts.fragments + summary.counts.refused > 0 {

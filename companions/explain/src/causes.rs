@@ -3,7 +3,7 @@
 
 use import::Why;
 
-use crate::answer::{Cause, CauseKind, CauseWhy, How, Nanos, Place, Request, Share, StallWhy};
+use crate::answer::{Cause, CauseKind, CauseWhy, How, Nanos, Place, Request, Share, StallWhy, Sure};
 use crate::seen::Seen;
 use crate::side_of;
 use crate::stream::{Direction, Stream};
@@ -53,6 +53,7 @@ pub fn no_cause() -> Cause {
         credit: None,
         setting: None,
         is_proved: false,
+        sure: None,
         is_silent: false,
         content: 0,
         streams: 0,
@@ -131,11 +132,13 @@ impl Held<'_> {
             return None;
         }
         let end = last.end.or_else(|| self.seen.about.tcp.closing(last.begin.time).at);
+        let sure = first.sure;
         Some(Cause {
             first: Some(first.begin),
             last: end,
             setting: self.seen.setting(side, first.begin.frame),
-            is_proved: true,
+            is_proved: matches!(sure, None | Some(Sure::Certain)),
+            sure,
             ..self.window_cause(side, kind, CauseWhy::Stalls(why), self.share(side, share))
         })
     }

@@ -3,7 +3,7 @@
 
 use std::collections::BTreeMap;
 
-use import::{help_for, Courses, Older, Summary, Uncaptured};
+use import::{help_for, Courses, Fate, Older, Summary, Uncaptured, Unopened};
 use reports::grouped;
 
 use crate::answer::{Answer, Files, NotAudited, Place, RoundTrip, Warning};
@@ -24,12 +24,13 @@ pub fn not_audited(answer: &Answer, summary: &Summary) -> Vec<NotAudited> {
     }
     let mut said: Vec<NotAudited> = Vec::new();
     let mut say = |reason: &str, count: u64, text: String| said.push(NotAudited { reason: reason.into(), count, text });
-    let one_way = summary.unopened.iter().filter(|pair| pair.is_one_way).count() as u64;
+    let not_joined = || summary.unopened.iter().filter(|pair| !matches!(pair.fate, Fate::Joined(_)));
+    let one_way = not_joined().filter(|pair| pair.is_one_way).count() as u64;
     if one_way > 0 {
         *reasons.entry(ONE_DIRECTION).or_default() += one_way;
     }
     reasons.iter().for_each(|(why, number)| say(why, *number, reason_words(why, &count(*number, "connection"))));
-    let unopened = summary.unopened.len() as u64 - one_way;
+    let unopened = not_joined().count() as u64 - one_way;
     if unopened > 0 {
         say("unopened", unopened, count(unopened, "connection") + " that began before the capture");
     }
@@ -126,7 +127,8 @@ fn cut(answer: &Answer) -> impl Iterator<Item = Warning> + '_ {
 
 fn one_direction(answer: &Answer, summary: &Summary) -> Option<Warning> {
     let some: Vec<_> = answer.connections.iter().filter(|one| one.reason == ONE_DIRECTION).collect();
-    let unopened: Vec<_> = summary.unopened.iter().filter(|pair| pair.is_one_way).collect();
+    let is_one = |pair: &&Unopened| pair.is_one_way && !matches!(pair.fate, Fate::Joined(_));
+    let unopened: Vec<_> = summary.unopened.iter().filter(is_one).collect();
     let connections = match some.len() + unopened.len() {
         0 => return None,
         number => count(number as u64, "connection"),

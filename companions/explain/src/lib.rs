@@ -29,6 +29,7 @@ mod frame_log;
 pub mod frames;
 mod hung;
 pub mod intervals;
+mod joining;
 mod leaks;
 mod learning;
 mod life;

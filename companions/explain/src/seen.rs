@@ -2,6 +2,9 @@
 //! second walk adds to it.
 
 use std::collections::HashMap;
+use std::rc::Rc;
+
+use joined::Inferred;
 
 use crate::answer::{is_pushed, At, Ended, How, Nanos, Place, RoundTrip, StallSaid, StallWhy};
 use crate::course::Course;
@@ -29,12 +32,19 @@ pub struct About {
     pub courses: [Course; 2],
     /// How many stalls each stream's window has, and when they were.
     pub stalls: HashMap<Key, (u32, Vec<Interval>)>,
+    /// What is inferred of one that began before the capture.
+    pub inferred: Option<Rc<Inferred>>,
 }
 
 impl About {
     /// Whether the ends are so far from each other that what a side has sent may stand before what it sends next.
     pub fn is_far(&self) -> bool {
         self.round_trip.nanos().map_or(false, |nanos| nanos >= NEAR)
+    }
+
+    /// Whether a stream was opened before the capture.
+    pub fn was_open(&self, stream: u32) -> bool {
+        self.inferred.as_ref().map_or(false, |inferred| inferred.open.binary_search(&stream).is_ok())
     }
 
     /// What holds back a direction.

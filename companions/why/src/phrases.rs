@@ -8,6 +8,7 @@ use explain::answer::{
 };
 use reports::{grouped, Side};
 
+use crate::joined::mark;
 use crate::wording::{count, percent, rate_of, streams_named, time_of};
 
 /// Below this both ends are too near to tell them apart.
@@ -134,6 +135,7 @@ impl<'a> Phrases<'a> {
         text += &self.why(request);
         text += &self.whose(cause);
         text += &hung_before(request);
+        text += &mark(self.said, request).unwrap_or_default();
         text
     }
 

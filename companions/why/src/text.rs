@@ -10,6 +10,7 @@ use reports::{grouped, Side};
 
 use crate::document::signal_word;
 use crate::faults::{told, Told};
+use crate::joined;
 use crate::life::life_of;
 use crate::page::{Colour, Look, Page};
 use crate::phrases::how_name;
@@ -51,6 +52,7 @@ pub fn write(whole: &Whole<'_>, look: Look, to: &mut dyn Write) -> io::Result<()
     if whole.summary.audited > 0 {
         page.line("")?;
         page.folded(PROVED, "  ", Colour::Dim)?;
+        joined::proved(answer).map_or(Ok(()), |text| page.folded(text, "  ", Colour::Dim))?;
     }
     Ok(())
 }
@@ -77,6 +79,9 @@ fn connections(whole: &Whole<'_>, page: &mut Page<'_>) -> io::Result<()> {
 fn connection(one: &Connection<'_>, page: &mut Page<'_>) -> io::Result<()> {
     let said = one.said;
     page.folded(&head(said), "  ", Colour::Bold)?;
+    for line in joined::lines_of(said, page.look.is_all) {
+        page.folded(&format!("  {line}"), "    ", Colour::Plain)?;
+    }
     faults(said, page)?;
     requests(one, page)?;
     idle_stall(said, page)?;
@@ -183,7 +188,8 @@ fn line_of(request: &Request, width: usize, cause: &str, page: &Page<'_>) -> Str
     if let Some(code) = request.grpc_status.filter(|code| *code > 0) {
         let _ = write!(status, " grpc {}", grpc_name(code));
     }
-    let (name, stream) = (name_of(request), format!("stream {}", request.stream));
+    let before = if request.was_open { " (opened before the capture)" } else { "" };
+    let (name, stream) = (name_of(request), format!("stream {}{before}", request.stream));
     let lasts = time_of(request.nanos());
     let mut text = format!("  {name:width$}  {stream:10}  {status}  {lasts:>9}   {cause}");
     let ended = &request.ended;
