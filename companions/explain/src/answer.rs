@@ -9,7 +9,7 @@ use reports::{Capture, Finding, Flow, Side};
 pub use crate::charts::{Charted, ChartsSaid, Others};
 pub use crate::files::Files;
 use crate::frames::Frames;
-pub use crate::joining::{assumed_of, JoinedSaid, Sure};
+pub use crate::joining::{assumed_of, key_of_stream, Doubtful, JoinedSaid, Sure};
 pub use crate::requests::Requests;
 pub use crate::rounds::{Place, RoundTrip, Source};
 

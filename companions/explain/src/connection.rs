@@ -222,6 +222,7 @@ type CutFrames = [Option<(u32, Box<[Nanos]>)>; 2];
 fn ended(walk: Walk, said: &mut ConnectionSaid) -> Rc<(Packed, Seen)> {
     let Walk { mut about, known, table, initials, windows, settings, blocks, signals, findings, leaks, .. } = walk;
     let Walk { unanswered, bursts, unshown, mut uses_window, stop, charts, beginning, .. } = walk;
+    let doubtful = beginning.as_ref().map(|beginning| beginning.doubtful()).unwrap_or_default();
     if let (Some(joined), Some(beginning)) = (&mut said.joined, beginning) {
         joined.windows = beginning.windows();
     }
@@ -264,6 +265,7 @@ fn ended(walk: Walk, said: &mut ConnectionSaid) -> Rc<(Packed, Seen)> {
         granted_windows: windows.map(|window| window.first.unwrap_or(0).max(window.credit).max(FIRST_CREDIT)),
         unshown,
         changes,
+        doubtful,
         about,
     };
     Rc::new((packed, seen))

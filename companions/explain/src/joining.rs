@@ -68,8 +68,9 @@ impl Sure {
 #[derive(Clone, Debug)]
 pub struct JoinedSaid {
     pub how: How,
-    /// What is assumed of windows, in the order in which [`Inferred`] has them; and whether a stall was possible on it.
-    pub windows: Vec<(Assumed, bool)>,
+    /// What is assumed of windows, in the order in which [`Inferred`] has them; and when something may have waited for one
+    /// that was not seen to be used up.
+    pub windows: Vec<(Assumed, Doubtful)>,
 }
 
 impl JoinedSaid {
@@ -155,12 +156,28 @@ pub fn without_beginning(audit: &mut Audit, inferred: &Inferred) -> Result<bool,
     Ok(true)
 }
 
-/// A window that was not seen to be used up: the credit that is left of what is assumed where it had the least, and
-/// whether something may have waited for it there.
+/// From a content at which a window had its least credit to the next one behind the last of these.
+pub type Doubtful = Option<(Nanos, Nanos)>;
+
+/// A window that was not seen to be used up: the credit that is left of what is assumed where it had the least, and when
+/// something may have waited for it.
 #[derive(Clone, Copy, Debug)]
 struct Bound {
     left: i64,
-    can_stall: bool,
+    doubtful: Doubtful,
+    is_low: bool,
+}
+
+/// Content of a stream: when its packets came first and last, whether it ends the stream, and what it leaves of the stream's
+/// window and of the connection's.
+#[derive(Clone, Copy, Debug)]
+pub struct Content {
+    pub side: usize,
+    pub stream: u32,
+    pub first: Nanos,
+    pub last: Nanos,
+    pub ends: bool,
+    pub left: [Option<i64>; 2],
 }
 
 /// The beginning of a connection that was made up, as frames come.
@@ -182,32 +199,57 @@ fn key_of(one: &Assumed) -> Key {
     (one.side, stream)
 }
 
+/// The same of a stream.
+pub fn key_of_stream(inferred: &Inferred, side: usize, stream: u32) -> Key {
+    let was_open = inferred.open.binary_search(&stream).is_ok();
+    (side, if was_open { stream } else { u32::MAX })
+}
+
 impl Beginning {
     pub fn new(inferred: Rc<Inferred>) -> Beginning {
         let bounded = inferred.assumed.iter().filter(|one| one.grade == Grade::Bound);
-        let bound = |one: &Assumed| Bound { left: one.credit.saturating_sub(one.least), can_stall: false };
+        let bound =
+            |one: &Assumed| Bound { left: one.credit.saturating_sub(one.least), doubtful: None, is_low: false };
         let bounds = bounded.map(|one| (key_of(one), bound(one))).collect();
         let left = inferred.made.iter().sum();
         Beginning { inferred, left, bounds }
     }
 
-    /// Content came, which may end its stream; and what is left of the stream's window and of the connection's.
-    pub fn content(&mut self, side: usize, stream: u32, ends: bool, [own, connection]: [Option<i64>; 2]) {
+    /// Content came.
+    pub fn content(&mut self, content: &Content) {
         if self.bounds.is_empty() {
             return;
         }
-        let stream = if self.inferred.open.binary_search(&stream).is_ok() { stream } else { u32::MAX };
-        for (key, credit, is_over) in [((side, stream), own, ends), ((side, 0), connection, false)] {
-            if let (Some(bound), Some(credit), false) = (self.bounds.get_mut(&key), credit, is_over) {
-                bound.can_stall |= credit <= bound.left;
+        let Content { side, stream, first, last, ends, left: [own, connection] } = *content;
+        let key = key_of_stream(&self.inferred, side, stream);
+        for (key, credit, is_over) in [(key, own, ends), ((side, 0), connection, false)] {
+            if let (Some(bound), Some(credit)) = (self.bounds.get_mut(&key), credit) {
+                bound.content((first, last), credit, is_over);
             }
         }
     }
 
-    /// What is assumed of windows, and whether a stall was possible on each.
-    pub fn windows(&self) -> Vec<(Assumed, bool)> {
-        let can_stall = |one: &Assumed| self.bounds.get(&key_of(one)).map_or(true, |bound| bound.can_stall);
-        self.inferred.assumed.iter().map(|one| (*one, can_stall(one))).collect()
+    /// When something may have waited for each window that was not seen to be used up.
+    pub fn doubtful(&self) -> HashMap<Key, (Nanos, Nanos)> {
+        self.bounds.iter().filter_map(|(key, bound)| Some((*key, bound.doubtful?))).collect()
+    }
+
+    /// What is assumed of windows, and when something may have waited for each.
+    pub fn windows(&self) -> Vec<(Assumed, Doubtful)> {
+        let doubtful = |one: &Assumed| self.bounds.get(&key_of(one)).and_then(|bound| bound.doubtful);
+        self.inferred.assumed.iter().map(|one| (*one, doubtful(one))).collect()
+    }
+}
+
+impl Bound {
+    fn content(&mut self, (first, last): (Nanos, Nanos), credit: i64, is_over: bool) {
+        if let (true, Some(doubtful)) = (self.is_low, &mut self.doubtful) {
+            doubtful.1 = first;
+        }
+        self.is_low = credit <= self.left && !is_over;
+        if self.is_low {
+            self.doubtful = Some((self.doubtful.map_or(last, |doubtful| doubtful.0), Nanos::MAX));
+        }
     }
 }
 
@@ -271,10 +313,14 @@ mod tests {
     fn where_even_the_bound_shows_no_stall() {
         let windows = vec![assumed(1, What::Stream(3), Grade::Bound), assumed(1, What::Stream(5), Grade::Bound)];
         let mut beginning = Beginning::new(Rc::new(inferred(windows)));
-        beginning.content(1, 3, false, [Some(2), None]);
-        beginning.content(1, 3, true, [Some(1), None]);
-        beginning.content(1, 5, false, [Some(1), None]);
+        let content = |stream, first, ends, own| {
+            let left = [Some(own), None];
+            Content { side: 1, stream, first, last: first + 1, ends, left }
+        };
+        for one in [content(3, 10, false, 2), content(3, 20, true, 1), content(5, 30, false, 1), content(5, 40, false, 2)] {
+            beginning.content(&one);
+        }
         let found: Vec<_> = beginning.windows().iter().map(|one| one.1).collect();
-        assert_eq!((found, beginning.left), (vec![false, true], 5));
+        assert_eq!((found, beginning.left), (vec![None, Some((31, 40))], 5));
     }
 }

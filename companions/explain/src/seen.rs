@@ -9,6 +9,7 @@ use joined::Inferred;
 use crate::answer::{is_pushed, At, Ended, How, Nanos, Place, RoundTrip, StallSaid, StallWhy};
 use crate::course::Course;
 use crate::intervals::{disjoint, Interval, Stretches};
+use crate::joining::key_of_stream;
 use crate::life::Holding;
 use crate::rounds::NEAR;
 use crate::settings::Changes;
@@ -101,6 +102,8 @@ pub struct Seen {
     pub unshown: [Option<Box<Stretches<()>>>; 2],
     /// By the side that sends: when its initial window changed.
     pub changes: [Changes; 2],
+    /// When something may have waited for a window, of which that is not known.
+    pub doubtful: HashMap<Key, Interval>,
 }
 
 /// Reasons in the order of their names, of which the first counts where several took as long.
@@ -151,6 +154,16 @@ impl Seen {
     pub fn is_end_unseen(&self, ended: &Ended, until: Nanos) -> bool {
         let is_shown = matches!(ended.how, How::EndStream | How::RstStream);
         !is_shown && self.about.lost <= until
+    }
+
+    /// Whether what a side sends on a stream may have waited for a window in some stretch of time, though no stall is known.
+    pub fn may_wait(&self, side: usize, stream: u32, (begin, end): Interval) -> bool {
+        let inferred = match &self.about.inferred {
+            Some(inferred) => inferred,
+            None => return false,
+        };
+        let keys = [(side, 0), key_of_stream(inferred, side, stream)];
+        keys.iter().filter_map(|key| self.doubtful.get(key)).any(|one| one.0 < end && one.1 > begin)
     }
 
     /// Which SETTINGS made the initial window of a side what it was at a frame.

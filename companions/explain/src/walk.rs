@@ -13,7 +13,7 @@ use crate::charts::{Charts, Choice, Left};
 use crate::cutter::{flag, kind, Cut};
 use crate::findings::{Findings, Here};
 use crate::intervals::Interval;
-use crate::joining::Beginning;
+use crate::joining::{Beginning, Content};
 use crate::leaks::Leaks;
 use crate::learning::Known;
 use crate::names::Interner;
@@ -300,8 +300,9 @@ impl Walk {
         if let Some(beginning) = &mut self.beginning {
             let number = cut.head.stream;
             let own = table.look(number, |stream| stream.sides[side].window.value(&initials[side])).flatten();
-            let left = [own, Some(windows[side].credit)];
-            beginning.content(side, number, cut.head.has(flag::END_STREAM), left);
+            let (left, ends) = ([own, Some(windows[side].credit)], cut.head.has(flag::END_STREAM));
+            let first = cut.times.first().copied().unwrap_or(frame.at.time);
+            beginning.content(&Content { side, stream: number, first, last: frame.at.time, ends, left });
         }
         if let (None, Some(leaks)) = (touched, &mut leaks[side]) {
             leaks.content(None, length);

@@ -4,8 +4,8 @@
 use std::fmt::Write;
 
 use explain::answer::{
-    assumed_of, Answer, Assumed, Cause, CauseKind, ConnectionSaid, Grade, Inferred, JoinedHow, JoinedSaid,
-    Request, Sure, Told, What,
+    assumed_of, Answer, Assumed, Cause, CauseKind, ConnectionSaid, Doubtful, Grade, Inferred, JoinedHow, JoinedSaid,
+    Nanos, Request, Sure, Told, What,
 };
 use reports::grouped;
 
@@ -86,7 +86,7 @@ fn bound_lines(joined: &JoinedSaid, is_all: bool) -> Vec<String> {
     }
     let bounds: Vec<_> = joined.windows.iter().filter(|one| one.0.grade == Grade::Bound).collect();
     let most = if is_all { bounds.len() } else { bounds.len().min(MOST_WINDOWS) };
-    let mut lines: Vec<String> = bounds[..most].iter().map(|(one, can_stall)| bound_line(one, *can_stall)).collect();
+    let mut lines: Vec<String> = bounds[..most].iter().map(|(one, doubtful)| bound_line(one, *doubtful)).collect();
     if bounds.len() > most {
         let more = count((bounds.len() - most) as u64, "window");
         lines.push(format!("{more} more were not seen to be used up: --all"));
@@ -94,14 +94,14 @@ fn bound_lines(joined: &JoinedSaid, is_all: bool) -> Vec<String> {
     lines
 }
 
-fn bound_line(one: &Assumed, can_stall: bool) -> String {
+fn bound_line(one: &Assumed, doubtful: Doubtful) -> String {
     let (side, least) = (SIDES[one.side], grouped(one.least.max(0)));
     let window = match one.what {
         What::Connection => "the connection's window".to_string(),
         What::Initial => "streams that opened since".to_string(),
         What::Stream(stream) => format!("stream {stream}"),
     };
-    match can_stall {
+    match doubtful.is_some() {
         true => format!(
             "no stall of the {side} can be told on {window}: it was not seen to use up its credit, of {least} bytes or more"
         ),
@@ -121,6 +121,22 @@ pub fn mark(said: &ConnectionSaid, request: &Request) -> Option<String> {
         (Sure::Either, Some(one)) => Some(format!(" [likely, {}]", either_words(one))),
         _ => None,
     }
+}
+
+/// Whether a request may have been stalled by a window of which that is not known.
+pub fn may_be_stalled(said: &ConnectionSaid, request: &Request) -> bool {
+    let joined = match &said.joined {
+        Some(joined) => joined,
+        None => return false,
+    };
+    let is_its = |what: What| match what {
+        What::Connection => true,
+        What::Initial => !request.was_open,
+        What::Stream(stream) => stream == request.stream,
+    };
+    let windows = joined.windows.iter().filter(|one| is_its(one.0.what) && request.sides[one.0.side].content > 0);
+    let is_within = |one: (Nanos, Nanos)| one.0 < request.until && one.1 > request.opened.time;
+    windows.map(|one| one.1.map_or(one.0.grade == Grade::Broken, is_within)).any(|may_be| may_be)
 }
 
 /// Why a window is taken to have been used up.
@@ -171,13 +187,13 @@ pub fn write(json: &mut Json<'_>, said: &ConnectionSaid) {
             json.name("doubtful").truth(inferred.map_or(false, |inferred| inferred.is_doubtful));
             let open = inferred.map_or(&[][..], |inferred| &inferred.open);
             json.name("open").list(open, |json, stream| json.number(*stream));
-            json.name("windows").list(&joined.windows, |json, (one, can_stall)| window(json, one, *can_stall));
+            json.name("windows").list(&joined.windows, |json, (one, doubtful)| window(json, one, *doubtful));
             json.name("text").list(&lines_of(said, true), |json, line| json.text(line));
         });
     });
 }
 
-fn window(json: &mut Json<'_>, one: &Assumed, can_stall: bool) {
+fn window(json: &mut Json<'_>, one: &Assumed, doubtful: Doubtful) {
     json.object(|json| {
         json.name("side").word(SIDES[one.side].name());
         named(json, one.what);
@@ -188,7 +204,7 @@ fn window(json: &mut Json<'_>, one: &Assumed, can_stall: bool) {
         json.name("touches").number(one.touches);
         json.name("pause_nanos").number(one.pause);
         json.name("or").some(one.with, |json, other| json.object(|json| named(json, other)));
-        json.name("can_stall").truth(can_stall);
+        json.name("can_stall").truth(one.grade != Grade::Bound || doubtful.is_some());
     });
 }
 
