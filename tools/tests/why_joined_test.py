@@ -31,10 +31,16 @@ def rounds(stream: int, length: int, count: int, *also: str) -> list[str]:
     return step * count + [f"S DATA {stream} {length}"]
 
 
+def wide(data: bytes) -> bytes:
+    """The packet with a wide TCP window, so that TCP holds back nothing."""
+    at = (data[0] & 15) * 4 + 14
+    return data[:at] + b"\xff\xff" + data[at + 2 :]
+
+
 class OnScripts(OnCaptures):
     def capture_of(self, packets: list[Packet]) -> pathlib.Path:
         path = self.folder / "capture.pcap"
-        path.write_bytes(pcap_of(packets, RAW))
+        path.write_bytes(pcap_of([Packet(one.nanos, wide(one.data), one.original) for one in packets], RAW))
         return path
 
     def script(self, *lines: str) -> pathlib.Path:
@@ -70,6 +76,7 @@ class Inferred(OnScripts):
         self.assertEqual((request["cause"]["grade"], request["cause"]["proved"]), ("strong", False))
         self.assertEqual({one["grade"] for one in connection["stalls"]}, {"strong"})
         text = self.text(path)
+        self.assertEqual(connection["settings"], [], "none that was made up")
         self.assertIn("began before the capture: client and server are told by the fields of requests", text)
         self.assertIn("frames are read from the first byte of the client's on", text)
         self.assertIn("(name unknown)  stream 5 (opened before the capture)", text)
@@ -130,6 +137,7 @@ class Unclaimed(OnScripts):
         path = self.script(*KNOWN, "S DATA 5 900", "C WINDOW_UPDATE 5 900", "S DATA 5 800", *["C"] * 90, "S DATA 5 9")
         connection = self.one(path)
         self.assertEqual(connection["stalls"], [])
+        self.assertIn("No rule was broken in what was audited. No side was seen to use up its credit.", self.text(path))
         (window,) = [one for one in connection["joined"]["windows"] if one["stream"] == 5]
         self.assertEqual((window["grade"], window["least"], window["can_stall"]), ("bound", 900, True))
         text = self.text(path)
@@ -220,10 +228,9 @@ class Status(OnScripts):
         self.assertIn("1 connection that began before the capture", self.text(path, "--no-joined"))
 
     def test_inferred_faults(self) -> None:
-        """Where ports alone tell the sides, who may open a stream is inferred."""
-        path = self.script("S DATA 5 10", "S DATA 9 10", "C PING", "S PING", "C HEX 000000 01 04 00000007", "S PING")
+        """Which streams were open is inferred."""
+        path = self.script("S DATA 9 10", "S DATA 5 10", REQUEST)
         connection = self.one(path)
-        self.assertEqual(connection["joined"]["sides"], "ports")
         self.assertEqual([(one["kind"], one["certainty"]) for one in connection["faults"]], [("not-opened", "joined")])
         self.assertIn("it rests on what is inferred", connection["faults"][0]["doubt"])
         statuses = [self.status(path, "--fail-on", reason) for reason in ("fault", "certain-fault", "joined-fault")]
@@ -290,6 +297,15 @@ class Cuts(OnScripts):
             self.assertEqual(connection["frames"], whole["frames"])
             self.assertEqual(self.status(path), 1)
             self.assertIn(f"its {word} was not captured, and nothing is inferred", self.text(path))
+
+    def test_a_segment_that_the_border_divides(self) -> None:
+        """What stands before the first frame is neither missing nor sent again."""
+        found = said_of(str(self.capture_of(self.packets("paused_stream_node")[10:])))
+        (connection,) = found["connections"]
+        self.assertEqual(connection["joined"]["server"]["offset"], 139)
+        self.assertEqual((found["warnings"], connection["uncaptured"]), ([], {"client": 0, "server": 0}))
+        shares = [request["server"]["shares"]["tcp"] for request in connection["requests"]]
+        self.assertEqual(shares, [0] * len(shares))
 
     def test_stalls_are_those_of_the_whole(self) -> None:
         """Each stall that is told of a cut capture, with its packets and its frames, is one of the whole."""

@@ -234,11 +234,8 @@ impl Held<'_> {
         }
         let is_long = |cause: &Cause| {
             let time = |at: Option<At>| at.map_or(0, |at| at.time);
-            let is_known = !self.seen.may_wait(
-                cause.side as usize,
-                self.request.stream,
-                (time(cause.first), time(cause.last)),
-            );
+            let is_known =
+                !self.seen.may_wait(cause.side as usize, self.request.stream, (time(cause.first), time(cause.last)));
             is_known
                 && cause.nanos >= LEAST_IDLE
                 && i128::from(cause.nanos) * IDLE_SHARE >= i128::from(self.request.nanos())

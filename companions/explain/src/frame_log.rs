@@ -276,7 +276,9 @@ mod tests {
                     });
                     assert_eq!(given, Ok(()));
                 }
-                Found::Unplaced(payload) => assert_eq!((payload.sequence, payload.flags, payload.octets), (9, 2, &b"raw"[..])),
+                Found::Unplaced(payload) => {
+                    assert_eq!((payload.sequence, payload.flags, payload.octets), (9, 2, &b"raw"[..]))
+                }
             }
             found.push(seen);
         }

@@ -4,7 +4,7 @@
 use std::collections::HashMap;
 use std::rc::Rc;
 
-use joined::{Assumed, Grade, How, Inferred, Told, What};
+use joined::{Assumed, Grade, How, Inferred, What};
 use reports::Finding;
 
 use crate::answer::Nanos;
@@ -12,22 +12,16 @@ use crate::audit::{broken, Audit, Stalled};
 use crate::seen::Key;
 use programs::Failure;
 
-/// Rules that a frame breaks by itself, or with what was seen before it, whatever was before the capture.
-const CERTAIN: [&str; 11] = [
-    "broken-block",
-    "too-long",
-    "long-frame",
+/// Rules that a frame breaks by itself, whatever was before it.
+const CERTAIN: [&str; 7] = [
     "wrong-stream",
     "wrong-size",
     "bad-padding",
     "bad-setting",
-    "after-end",
     "zero-connection-grant",
     "zero-stream-grant",
     "bad-priority",
 ];
-/// The same where it is certain who the client is.
-const BY_SIDES: [&str; 3] = ["push", "not-opened", "id-not-greater"];
 /// Rules about credits.
 const OF_WINDOWS: [&str; 5] =
     ["connection-overrun", "stream-overrun", "connection-overflow", "setting-overflow", "stream-overflow"];
@@ -115,9 +109,7 @@ fn claimed(inferred: &Inferred, fault: &Finding) -> Option<bool> {
         let stream = u32::try_from(fault.stream).unwrap_or(0);
         return is_known(inferred, fault.side as usize, stream, time).then_some(false);
     }
-    let are_sides_certain = !matches!(inferred.sides, Told::Ports | Told::Content);
-    let is_certain = CERTAIN.contains(&kind) || BY_SIDES.contains(&kind) && are_sides_certain;
-    Some(!is_certain)
+    Some(!CERTAIN.contains(&kind))
 }
 
 /// Whether what is inferred may be the reason of a fault that is claimed.
@@ -133,7 +125,8 @@ pub fn without_beginning(audit: &mut Audit, inferred: &Inferred) -> Result<bool,
     let real = frames.checked_sub(u64::from(made)).ok_or_else(|| broken("it has no beginning that was made up"))?;
     audit.form = reports::Form::Http2 { frames: real };
     let is_in_beginning = |frame: u32| frame <= made;
-    if audit.faults.iter().any(|fault| fault.frame <= u64::from(made)) || audit.stopped_at.map_or(false, is_in_beginning)
+    if audit.faults.iter().any(|fault| fault.frame <= u64::from(made))
+        || audit.stopped_at.map_or(false, is_in_beginning)
     {
         return Ok(false);
     }
@@ -208,8 +201,7 @@ pub fn key_of_stream(inferred: &Inferred, side: usize, stream: u32) -> Key {
 impl Beginning {
     pub fn new(inferred: Rc<Inferred>) -> Beginning {
         let bounded = inferred.assumed.iter().filter(|one| one.grade == Grade::Bound);
-        let bound =
-            |one: &Assumed| Bound { left: one.credit.saturating_sub(one.least), doubtful: None, is_low: false };
+        let bound = |one: &Assumed| Bound { left: one.credit.saturating_sub(one.least), doubtful: None, is_low: false };
         let bounds = bounded.map(|one| (key_of(one), bound(one))).collect();
         let left = inferred.made.iter().sum();
         Beginning { inferred, left, bounds }
@@ -256,6 +248,7 @@ impl Bound {
 #[cfg(test)]
 mod tests {
     use super::*;
+    use joined::Told;
     use reports::{Kind, Side};
 
     const NONE: Option<Nanos> = None;
@@ -298,14 +291,11 @@ mod tests {
 
     #[test]
     fn which_faults_are_claimed() {
-        let mut one = inferred(Vec::new());
+        let one = inferred(Vec::new());
         let of = |one: &Inferred, kind, stream, time| claimed(one, &fault(kind, stream, time));
         assert_eq!(of(&one, "connection-overrun", 0, 99), None);
         assert_eq!([of(&one, "stream-overrun", 3, 99), of(&one, "stream-overrun", 7, 50)], [None, None]);
         assert_eq!(of(&one, "stream-overrun", 7, 51), Some(false));
-        assert_eq!([of(&one, "wrong-size", 3, 1), of(&one, "not-opened", 9, 1)], [Some(false), Some(false)]);
-        assert_eq!(of(&one, "unmatched-ack", 0, 1), Some(true));
-        one.sides = Told::Ports;
         assert_eq!([of(&one, "wrong-size", 3, 1), of(&one, "not-opened", 9, 1)], [Some(false), Some(true)]);
     }
 
@@ -317,7 +307,9 @@ mod tests {
             let left = [Some(own), None];
             Content { side: 1, stream, first, last: first + 1, ends, left }
         };
-        for one in [content(3, 10, false, 2), content(3, 20, true, 1), content(5, 30, false, 1), content(5, 40, false, 2)] {
+        for one in
+            [content(3, 10, false, 2), content(3, 20, true, 1), content(5, 30, false, 1), content(5, 40, false, 2)]
+        {
             beginning.content(&one);
         }
         let found: Vec<_> = beginning.windows().iter().map(|one| one.1).collect();

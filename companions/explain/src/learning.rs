@@ -135,7 +135,9 @@ impl Learned {
     pub fn place(&mut self, came: &Came, payload: &Payload<'_>, log: &mut FrameLog) -> io::Result<()> {
         let Payload { sequence, flags, octets } = *payload;
         match self.initials[came.side].and_then(|initial| placed(initial, sequence, flags, octets)) {
-            Some((offset, data)) if !self.sides[import::CLIENT].cutter.is_other() => self.bytes(came, offset, data, log),
+            Some((offset, data)) if !self.sides[import::CLIENT].cutter.is_other() => {
+                self.bytes(came, offset, data, log)
+            }
             _ => Ok(()),
         }
     }

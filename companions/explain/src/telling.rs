@@ -14,8 +14,8 @@ use crate::blocks::Names;
 use crate::building::{Asked, Made};
 use crate::charts::Choice;
 use crate::connection::Connection;
-use crate::joining::without_beginning;
 use crate::frame_log::{Came, Entry, Found, FrameReader, Frames};
+use crate::joining::without_beginning;
 use crate::learning::Known;
 use crate::names::Interner;
 use crate::spoken::{note_of, reason_of};
@@ -235,7 +235,8 @@ fn said_at_first(
         Form::Refused(_) => return Err(other()),
     };
     said.reason = reason_of(said.outcome, course, spoken).unwrap_or_default().to_string();
-    if let Some(reason) = unjoined(is_sound, is_one_way) {
+    let has_both = inferred.is_none() || course.sides.iter().all(|side| side.last.is_some());
+    if let Some(reason) = unjoined(is_sound, is_one_way || !has_both) {
         (said.outcome, said.reason) = (Outcome::NoPreface, reason.to_string());
     }
     if !said.is_audited() {

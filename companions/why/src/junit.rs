@@ -153,7 +153,8 @@ impl<'a> Suite<'a> {
                 Case {
                     name: "connection".to_string(),
                     nanos: self.nanos(),
-                    said: self.lines(lines_of(one.said, false).into_iter().chain(one.said.notes.iter().cloned()), place),
+                    said: self
+                        .lines(lines_of(one.said, false).into_iter().chain(one.said.notes.iter().cloned()), place),
                     skipped: (!one.said.is_audited()).then(|| not_audited_words(one.said)),
                     failures: self.failures(place),
                 }
