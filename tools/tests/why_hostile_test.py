@@ -131,7 +131,7 @@ class Hostile(OnCaptures):
         run = ran(self.capture_of([("C", frame(4, 0, 0))], begins=False))
         self.assertEqual(run.returncode, 6)
         self.assertTrue(run.stdout.startswith(b"warning: nothing was audited"))
-        self.assertIn(b"one direction alone was captured", run.stdout)
+        self.assertIn(b"began before the capture", run.stdout)
         self.assertNotIn(b"No rule was broken", run.stdout)
 
     def test_many_streams(self) -> None:

@@ -104,7 +104,7 @@ fn answer_by(asked: &Asked<'_>, mut made: Made, audits: Vec<Audit>) -> Result<An
     let (cuts, counts) = (std::mem::take(&mut made.cuts), made.summary.counts);
     let mut answer = Answer { files, packets: counts.records, counts, cuts, ..Answer::default() };
     tell(asked, &mut made, audits, &mut answer)?;
-    answer.not_audited = not_audited(&answer, &made.summary);
+    answer.not_audited = not_audited(&answer, &made.summary, &made.courses);
     answer.warnings = doubts_of(&answer, &made.summary, &made.courses);
     Ok(answer)
 }

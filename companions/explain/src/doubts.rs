@@ -3,10 +3,11 @@
 
 use std::collections::BTreeMap;
 
-use import::{help_for, Courses, Fate, Older, Summary, Uncaptured, Unopened};
+use import::{help_for, Courses, Older, Summary, Uncaptured};
 use reports::grouped;
 
 use crate::answer::{Answer, Files, NotAudited, Place, RoundTrip, Warning};
+use crate::joining::is_told;
 use crate::passed::passed_over;
 use crate::rounds::NEAR;
 use crate::side_of;
@@ -16,7 +17,7 @@ use crate::words::{count, reason_words, time_of};
 const ONE_DIRECTION: &str = "one-direction";
 
 /// What the capture holds beside what was audited, by reasons.
-pub fn not_audited(answer: &Answer, summary: &Summary) -> Vec<NotAudited> {
+pub fn not_audited(answer: &Answer, summary: &Summary, courses: &Courses) -> Vec<NotAudited> {
     let mut reasons: BTreeMap<&str, u64> = BTreeMap::new();
     for one in answer.connections.iter().filter(|one| !one.is_audited()) {
         let reason = if one.reason.is_empty() { one.outcome.name() } else { &one.reason };
@@ -24,7 +25,7 @@ pub fn not_audited(answer: &Answer, summary: &Summary) -> Vec<NotAudited> {
     }
     let mut said: Vec<NotAudited> = Vec::new();
     let mut say = |reason: &str, count: u64, text: String| said.push(NotAudited { reason: reason.into(), count, text });
-    let not_joined = || summary.unopened.iter().filter(|pair| !matches!(pair.fate, Fate::Joined(_)));
+    let not_joined = || summary.unopened.iter().filter(|pair| !is_told(pair, courses));
     let one_way = not_joined().filter(|pair| pair.is_one_way).count() as u64;
     if one_way > 0 {
         *reasons.entry(ONE_DIRECTION).or_default() += one_way;
@@ -127,8 +128,7 @@ fn cut(answer: &Answer) -> impl Iterator<Item = Warning> + '_ {
 
 fn one_direction(answer: &Answer, summary: &Summary) -> Option<Warning> {
     let some: Vec<_> = answer.connections.iter().filter(|one| one.reason == ONE_DIRECTION).collect();
-    let is_one = |pair: &&Unopened| pair.is_one_way && !matches!(pair.fate, Fate::Joined(_));
-    let unopened: Vec<_> = summary.unopened.iter().filter(is_one).collect();
+    let unopened: Vec<_> = summary.unopened.iter().filter(|pair| pair.is_one_way).collect();
     let connections = match some.len() + unopened.len() {
         0 => return None,
         number => count(number as u64, "connection"),

@@ -4,13 +4,14 @@
 use std::collections::HashMap;
 use std::rc::Rc;
 
+use import::{Courses, Fate, Unopened};
 use joined::{Assumed, Grade, How, Inferred, What};
+use programs::Failure;
 use reports::Finding;
 
 use crate::answer::Nanos;
 use crate::audit::{broken, Audit, Stalled};
 use crate::seen::Key;
-use programs::Failure;
 
 /// Rules that a frame breaks by itself, whatever was before it.
 const CERTAIN: [&str; 7] = [
@@ -74,6 +75,16 @@ impl JoinedSaid {
             How::Syn | How::Answer | How::Handshake => None,
         }
     }
+}
+
+/// Whether a connection that began before the capture was joined, and both directions of it were captured: without the
+/// grants of the other side no window can be told.
+pub fn is_told(pair: &Unopened, courses: &Courses) -> bool {
+    let sides = match pair.fate {
+        Fate::Joined(connection) => courses.connections.get(connection).map(|course| &course.sides),
+        Fate::NotAsked | Fate::Unjoined(_) => None,
+    };
+    !pair.is_one_way && sides.map_or(false, |sides| sides.iter().all(|side| side.last.is_some()))
 }
 
 /// What is assumed of the window of a stream, or of the connection.

@@ -15,7 +15,7 @@ use crate::building::{Asked, Made};
 use crate::charts::Choice;
 use crate::connection::Connection;
 use crate::frame_log::{Came, Entry, Found, FrameReader, Frames};
-use crate::joining::without_beginning;
+use crate::joining::{is_told, without_beginning};
 use crate::learning::Known;
 use crate::names::Interner;
 use crate::spoken::{note_of, reason_of};
@@ -27,6 +27,8 @@ use crate::walk::Asking;
 const MOST_BETWEEN_LOOKS: u64 = 0x3FF;
 /// So many streams that go on are not packed, of all connections together.
 const MOST_LIVE: usize = 4096;
+/// Why nothing is said of a connection whose beginning breaks rules.
+const NO_BEGINNING: &str = "joined-beginning";
 /// What helps where times go back though packets were put in order.
 const LATER: &str = "reordercap";
 
@@ -62,13 +64,17 @@ pub fn tell(asked: &Asked<'_>, made: &mut Made, audits: Vec<Audit>, answer: &mut
     walked.resize_with(made.known.len(), || None);
     answer.connections.reserve_exact(audits.len());
     let mut numbers = std::mem::take(&mut made.order).into_iter();
-    let one_way = one_way_of(&made.summary);
-    for (index, audit) in audits.into_iter().enumerate() {
+    let untold = untold(&made.summary, &made.courses);
+    for audit in audits {
         // A report of some parts alone has not all connections.
         let is_of_it =
             |number: &usize| made.known[*number].as_ref().map_or(false, |known| known.record == audit.record);
         let number = numbers.find(is_of_it).ok_or_else(|| broken("it has other connections"))?;
-        let (said, state) = said_at_first(made, audit, number, one_way.contains(&number))?;
+        if untold.contains(&number) {
+            continue;
+        }
+        let (said, state) = said_at_first(made, audit, number)?;
+        let index = answer.connections.len();
         answer.connections.push(said);
         walked[number] = state.map(|state| Walked { index, state });
     }
@@ -174,12 +180,7 @@ fn begun<'a>(
 }
 
 /// What is said of a connection before its frames are; and what these are walked over with.
-fn said_at_first(
-    made: &mut Made,
-    mut audit: Audit,
-    number: usize,
-    is_one_way: bool,
-) -> Result<(ConnectionSaid, Option<State>), Failure> {
+fn said_at_first(made: &mut Made, mut audit: Audit, number: usize) -> Result<(ConnectionSaid, Option<State>), Failure> {
     let other = || broken("it has other connections");
     let mut known = made.known.get_mut(number).and_then(Option::take).ok_or_else(other)?;
     if made.summary.reordered.is_some() {
@@ -235,9 +236,8 @@ fn said_at_first(
         Form::Refused(_) => return Err(other()),
     };
     said.reason = reason_of(said.outcome, course, spoken).unwrap_or_default().to_string();
-    let has_both = inferred.is_none() || course.sides.iter().all(|side| side.last.is_some());
-    if let Some(reason) = unjoined(is_sound, is_one_way || !has_both) {
-        (said.outcome, said.reason) = (Outcome::NoPreface, reason.to_string());
+    if !is_sound {
+        (said.outcome, said.reason) = (Outcome::NoPreface, NO_BEGINNING.to_string());
     }
     if !said.is_audited() {
         return Ok((said, None));
@@ -251,22 +251,13 @@ fn said_at_first(
     Ok((said, Some(State::Ahead(known, Box::new(audit), inferred))))
 }
 
-/// Why nothing is said of a connection that was joined.
-fn unjoined(is_sound: bool, is_one_way: bool) -> Option<&'static str> {
-    match (is_sound, is_one_way) {
-        (_, true) => Some("one-direction"),
-        (false, false) => Some("joined-beginning"),
-        (true, false) => None,
-    }
-}
-
-/// The connections that were joined, and of which one direction alone was captured.
-fn one_way_of(summary: &Summary) -> HashSet<usize> {
+/// Connections of which nothing is said, though they were joined.
+fn untold(summary: &Summary, courses: &Courses) -> HashSet<usize> {
     let joined_as = |pair: &Unopened| match pair.fate {
         Fate::Joined(connection) => Some(connection),
         Fate::NotAsked | Fate::Unjoined(_) => None,
     };
-    summary.unopened.iter().filter(|pair| pair.is_one_way).filter_map(joined_as).collect()
+    summary.unopened.iter().filter(|pair| !is_told(pair, courses)).filter_map(joined_as).collect()
 }
 
 /// A connection of which nothing is said yet.
