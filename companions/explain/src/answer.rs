@@ -6,10 +6,11 @@ pub use import::Uncaptured;
 pub use joined::{Assumed, Grade, How as JoinedHow, Inferred, Told, What};
 use reports::{Capture, Finding, Flow, Side};
 
+pub use crate::beginning::Doubtful;
 pub use crate::charts::{Charted, ChartsSaid, Others};
 pub use crate::files::Files;
 use crate::frames::Frames;
-pub use crate::joining::{assumed_of, key_of_stream, Doubtful, JoinedSaid, Sure};
+pub use crate::joining::{assumed_of, JoinedSaid, Sure};
 pub use crate::requests::Requests;
 pub use crate::rounds::{Place, RoundTrip, Source};
 

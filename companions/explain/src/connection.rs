@@ -8,6 +8,7 @@ use programs::Failure;
 
 use crate::answer::{ConnectionSaid, Nanos, RoundTrip, Source, StallSaid, StallWhy};
 use crate::audit::{broken, Audit};
+use crate::beginning::Beginning;
 use crate::blocks::Blocks;
 use crate::charts::Charts;
 use crate::course::{Course, Waits};
@@ -16,7 +17,6 @@ use crate::findings::Findings;
 use crate::frame_log::{self, Came};
 use crate::frames::Frames;
 use crate::intervals::Stretches;
-use crate::joining::Beginning;
 use crate::leaks::{Candidate, Leaks};
 use crate::learning::Known;
 use crate::requests::Packed;

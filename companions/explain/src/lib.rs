@@ -12,6 +12,7 @@ use reports::Side;
 
 pub mod answer;
 mod audit;
+mod beginning;
 mod blocks;
 mod building;
 mod bursts;

@@ -7,9 +7,9 @@ use std::rc::Rc;
 use joined::Inferred;
 
 use crate::answer::{is_pushed, At, Ended, How, Nanos, Place, RoundTrip, StallSaid, StallWhy};
+use crate::beginning::key_of_stream;
 use crate::course::Course;
 use crate::intervals::{disjoint, Interval, Stretches};
-use crate::joining::key_of_stream;
 use crate::life::Holding;
 use crate::rounds::NEAR;
 use crate::settings::Changes;

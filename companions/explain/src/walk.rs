@@ -9,13 +9,13 @@ use std::rc::Rc;
 use programs::Failure;
 
 use crate::answer::{is_pushed, At, Nanos, Place};
+use crate::beginning::{Beginning, Content};
 use crate::blocks::{answered_of, asked_of, Blocks, Decoded, Names};
 use crate::bursts::Bursts;
 use crate::charts::{Charts, Choice, Left};
 use crate::cutter::{flag, kind, Cut};
 use crate::findings::{Findings, Here};
 use crate::intervals::Interval;
-use crate::joining::{Beginning, Content};
 use crate::leaks::Leaks;
 use crate::learning::Known;
 use crate::names::Interner;
