@@ -14,7 +14,7 @@ PLACES = {"client": "at the client", "server": "at the server", "between": "betw
 
 
 def known_of(one: Connection) -> list[str]:
-    """Its notes, and facts, in sentences; none of a report."""
+    """How it was joined, its notes, and facts, in sentences; none of a report."""
     said = one.said
     if not said:
         return []
@@ -26,7 +26,8 @@ def known_of(one: Connection) -> list[str]:
         *[f"{count(number, 'byte')} that the {side} sent were acknowledged, and no packet has them"
           for side, number in said["uncaptured"].items() if number],
     ]  # fmt: skip
-    return [ended(text) for text in [*said["notes"], *facts, *said["limits"]] if text]
+    joined = said["joined"]["text"] if said.get("joined") else []
+    return [ended(text) for text in [*joined, *said["notes"], *facts, *said["limits"]] if text]
 
 
 def settings_table(one: Connection) -> Markup:

@@ -99,12 +99,12 @@ _h2audit_why() {
     local word=${COMP_WORDS[COMP_CWORD]} before=${COMP_WORDS[COMP_CWORD - 1]}
     local options='--key-log -k --sort --reorder --all --query --no-requests --json --json-lines --charts --rows --windows'
     options+=' --color --width --h2audit --report --audit --workers --fail-on --fail-stall --fail-life --require-http2'
-    options+=' --junit --quiet'
+    options+=' --junit --quiet --no-joined'
     options+=' --compare --ends --help -h --version -V'
     [[ $word == = ]] && word=
     [[ $before == = ]] && before=${COMP_WORDS[COMP_CWORD - 2]}
     case $before in
-    --fail-on) _h2audit_offer -W 'fault certain-fault stall hung tcp error unanswered status gap cut not-audited' -- "$word" ;;
+    --fail-on) _h2audit_offer -W 'fault certain-fault joined-fault stall hung tcp error unanswered status gap cut not-audited' -- "$word" ;;
     --fail-stall) _h2audit_offer -W '10ms 100ms 1s' -- "$word" ;;
     --fail-life) _h2audit_offer -W '1s 2s 10s' -- "$word" ;;
     --color) _h2audit_offer -W 'auto always never' -- "$word" ;;

@@ -122,6 +122,11 @@ class Sentences(unittest.TestCase):
         ):
             self.assertIn(said, text)
 
+    def test_a_connection_that_was_joined(self) -> None:
+        report, document = stalled()
+        document["connections"][0]["joined"] = {"text": ["began before the capture: windows are inferred"]}
+        self.assertIn("<li>Began before the capture: windows are inferred.</li>", page_of(report, document))
+
 
 class Doubts(unittest.TestCase):
     """Who may have broken a rule is not said to have broken it."""

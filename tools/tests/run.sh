@@ -137,6 +137,7 @@ try_built 'the answer in words: answers found by hand' why_answers_test "$built"
 try_built 'the answer in words: captures near those' why_near_test "$built"
 try_built 'the answer in words: hostile captures' why_hostile_test "$built"
 try_built 'the answer in words: jobs of CI' why_ci_test "$built"
+try_built 'the answer in words: connections that began before' why_joined_test "$built"
 try_built 'the answer in words: before and after' why_compare_test "$built"
 try_built 'the answer in words: two ends, generated' why_ends_test "$built" Generated
 try_built 'the answer in words: two ends of a wire' why_ends_test "$built" Wire

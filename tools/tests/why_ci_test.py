@@ -21,7 +21,8 @@ SCHEMA = pathlib.Path(__file__).with_name("junit.xsd")
 EXAMPLES = sorted((TOP / "examples").glob("*.pcap"))
 TLS = sorted((TOP / "tests" / "tls").glob("*.pcap"))
 REASONS = (
-    "fault", "certain-fault", "stall", "hung", "tcp", "error", "unanswered", "status", "gap", "cut", "not-audited",
+    "fault", "certain-fault", "joined-fault", "stall", "hung", "tcp", "error", "unanswered", "status", "gap", "cut",
+    "not-audited",
 )  # fmt: skip
 # The reasons that hold in each example: found by hand, from the descriptions in examples/README.md.
 BROKEN = {"fault", "certain-fault"}
@@ -61,8 +62,8 @@ ALONE = {
     "not-audited": "opened\nC PING\nSEGMENT 1 2 3 4 5 16 PING\n",
 }  # fmt: skip
 
-# No row of tests/reports has TCP that holds back a request, nor an error's code.
-ALONE_ONLY = ("tcp", "error", "status")
+# No row of tests/reports has TCP that holds back a request, an error's code, or a fault that rests on what is inferred.
+ALONE_ONLY = ("tcp", "error", "status", "joined-fault")
 
 
 def slower(octets: bytes, step: int = SECOND // 10) -> bytes:

@@ -127,7 +127,7 @@ class Hostile(OnCaptures):
         self.assertEqual(len(ran("--json", path).stdout.splitlines()), 1)
 
     def test_within(self) -> None:
-        """A capture that begins within a connection: nothing was audited, and it does not look clean."""
+        """One side of a connection that began before the capture: nothing was audited, and it does not look clean."""
         run = ran(self.capture_of([("C", frame(4, 0, 0))], begins=False))
         self.assertEqual(run.returncode, 6)
         self.assertTrue(run.stdout.startswith(b"warning: nothing was audited"))

@@ -38,7 +38,7 @@ class Stored(OnCaptures):
         for capture in EXAMPLES + TLS:
             with self.subTest(capture.name):
                 words = words_for(capture)
-                found = said_of(*words)
+                found = said_of("--no-joined", *words)
                 validator.validate(found)
                 self.sums(found)
                 self.same_numbers(found, self.report_of(*words))
@@ -119,7 +119,7 @@ class Random(OnCaptures):
                 made = random_captures.script(source) if seed % 2 else random_captures.capture(source)
                 path.write_bytes(made)
                 try:
-                    found = said_of(str(path))
+                    found = said_of("--no-joined", str(path))
                 except Refused:
                     continue
                 self.sums(found)

@@ -3,11 +3,14 @@
 use std::rc::Rc;
 
 pub use import::Uncaptured;
+pub use joined::{Assumed, Grade, How as JoinedHow, Inferred, Told, What};
 use reports::{Capture, Finding, Flow, Side};
 
+pub use crate::beginning::Doubtful;
 pub use crate::charts::{Charted, ChartsSaid, Others};
 pub use crate::files::Files;
 use crate::frames::Frames;
+pub use crate::joining::{assumed_of, JoinedSaid, Sure};
 pub use crate::requests::Requests;
 pub use crate::rounds::{Place, RoundTrip, Source};
 
@@ -59,6 +62,8 @@ pub struct StallSaid {
     pub why: StallWhy,
     /// How much later than a round trip its end came.
     pub late: Nanos,
+    /// How sure it is, in a connection of which something is inferred.
+    pub sure: Option<Sure>,
 }
 
 /// What used a connection's credit up to a stall that cancelled streams made.
@@ -220,6 +225,8 @@ pub struct Cause {
     /// The SETTINGS whose initial window was in force as it began: an index into [`ConnectionSaid::settings`].
     pub setting: Option<u32>,
     pub is_proved: bool,
+    /// How sure its stalls are, in a connection of which something is inferred.
+    pub sure: Option<Sure>,
     /// Whether the side sent nothing at all on the connection, where it sent nothing on the stream.
     pub is_silent: bool,
     /// Of a path: what the side sent on the connection meanwhile, and how many streams shared it.
@@ -252,6 +259,8 @@ pub struct Request {
     pub hung_nanos: Nanos,
     /// Whether what ended it may have been among bytes that were not captured.
     pub is_end_unseen: bool,
+    /// Whether it was opened before the capture: then its life is told from the connection's first packet on.
+    pub was_open: bool,
 }
 
 /// Whether the server opened a stream, by a promise: those of the client are odd (RFC 9113, 5.1.1).
@@ -280,6 +289,8 @@ pub enum Certainty {
     Settings,
     Gap,
     Clock,
+    /// It rests on what is inferred of a connection that began before the capture.
+    Joined,
 }
 
 #[derive(Clone, Debug)]
@@ -351,6 +362,8 @@ pub struct ConnectionSaid {
     pub server: String,
     pub opened: At,
     pub outcome: Outcome,
+    /// Of one that began before the capture.
+    pub joined: Option<Box<JoinedSaid>>,
     /// Why it was not audited, where that is known more closely.
     pub reason: String,
     /// Version and suite of TLS, and more, as the map of an import says it.

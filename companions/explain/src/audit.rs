@@ -38,6 +38,8 @@ pub struct Audit {
     /// In the order of begins.
     pub stalls: Vec<Stalled>,
     pub stopped_at: Option<u32>,
+    /// When that frame came, where the fault that stopped the audit is not among those that are told.
+    pub stop: Option<Nanos>,
 }
 
 /// What h2audit wrote is no report of what was made.
@@ -88,6 +90,7 @@ impl Audit {
             faults: Vec::new(),
             stalls: Vec::new(),
             stopped_at: None,
+            stop: None,
         }
     }
 

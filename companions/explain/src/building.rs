@@ -28,6 +28,8 @@ pub struct Asked<'a> {
     pub key_logs: &'a [OsString],
     /// Whether packets are put in order of time.
     pub is_reordered: bool,
+    /// Whether connections that began before the capture are joined.
+    pub is_joined: bool,
     /// The program that audits, where it is named, and its options.
     pub h2audit: Option<OsString>,
     pub options: &'a [String],
@@ -102,7 +104,7 @@ fn answer_by(asked: &Asked<'_>, mut made: Made, audits: Vec<Audit>) -> Result<An
     let (cuts, counts) = (std::mem::take(&mut made.cuts), made.summary.counts);
     let mut answer = Answer { files, packets: counts.records, counts, cuts, ..Answer::default() };
     tell(asked, &mut made, audits, &mut answer)?;
-    answer.not_audited = not_audited(&answer, &made.summary);
+    answer.not_audited = not_audited(&answer, &made.summary, &made.courses);
     answer.warnings = doubts_of(&answer, &made.summary, &made.courses);
     Ok(answer)
 }
@@ -113,8 +115,8 @@ fn make(asked: &Asked<'_>, keeping: Option<Keeping>) -> Result<(Made, Option<Kee
     let mut listening = Listening { learning: Learning::new()?, keeping };
     let mut courses = Courses::default();
     let mut sink = Sink::new(&mut capture, &mut listening)?;
-    let Asked { program, files, key_logs, is_reordered, .. } = *asked;
-    let (is_joined, bounds) = (false, Bounds::default());
+    let Asked { program, files, key_logs, is_reordered, is_joined, .. } = *asked;
+    let bounds = Bounds::default();
     let import = import::Asked { program, files, key_logs, is_reordered, is_joined, bounds, can_repeat: true };
     let summary = import::imported(&import, &mut sink, Some(&mut courses))?;
     drop(sink);

@@ -3,7 +3,7 @@
 
 use import::Why;
 
-use crate::answer::{Cause, CauseKind, CauseWhy, How, Nanos, Place, Request, Share, StallWhy};
+use crate::answer::{At, Cause, CauseKind, CauseWhy, How, Nanos, Place, Request, Share, StallWhy, Sure};
 use crate::seen::Seen;
 use crate::side_of;
 use crate::stream::{Direction, Stream};
@@ -53,6 +53,7 @@ pub fn no_cause() -> Cause {
         credit: None,
         setting: None,
         is_proved: false,
+        sure: None,
         is_silent: false,
         content: 0,
         streams: 0,
@@ -131,11 +132,13 @@ impl Held<'_> {
             return None;
         }
         let end = last.end.or_else(|| self.seen.about.tcp.closing(last.begin.time).at);
+        let sure = first.sure;
         Some(Cause {
             first: Some(first.begin),
             last: end,
             setting: self.seen.setting(side, first.begin.frame),
-            is_proved: true,
+            is_proved: matches!(sure, None | Some(Sure::Certain)),
+            sure,
             ..self.window_cause(side, kind, CauseWhy::Stalls(why), self.share(side, share))
         })
     }
@@ -230,7 +233,12 @@ impl Held<'_> {
             return Vec::new();
         }
         let is_long = |cause: &Cause| {
-            cause.nanos >= LEAST_IDLE && i128::from(cause.nanos) * IDLE_SHARE >= i128::from(self.request.nanos())
+            let time = |at: Option<At>| at.map_or(0, |at| at.time);
+            let is_known =
+                !self.seen.may_wait(cause.side as usize, self.request.stream, (time(cause.first), time(cause.last)));
+            is_known
+                && cause.nanos >= LEAST_IDLE
+                && i128::from(cause.nanos) * IDLE_SHARE >= i128::from(self.request.nanos())
         };
         let of_side = |side: usize| [self.waited(side), self.between(side)].into_iter().flatten().filter(is_long);
         let open = (0..2).filter(|side| self.ends[*side] != How::EndStream);
@@ -242,13 +250,18 @@ impl Held<'_> {
         Cause { kind: CauseKind::Application, why, side: side_of(side), ask: Some(side_of(side)), nanos, ..no_cause() }
     }
 
+    /// Credit that is told: none that rests on what is inferred.
+    fn credit(&self, credit: Option<i64>) -> Option<i64> {
+        credit.filter(|_| self.seen.about.inferred.is_none())
+    }
+
     /// How long a side took to begin after the other one's last frame before that.
     fn waited(&self, side: usize) -> Option<Cause> {
         let (said, one): (_, &Direction) = (&self.request.sides[side], &self.stream.sides[side]);
         (said.waited > 0).then(|| Cause {
             first: Some(one.asked),
             last: said.first.or(said.end),
-            credit: one.asked_credit,
+            credit: self.credit(one.asked_credit),
             is_silent: one.was_silent,
             ..self.application(side, CauseWhy::Before, said.waited)
         })
@@ -262,7 +275,7 @@ impl Held<'_> {
         (end > begin).then(|| Cause {
             first: idle.before.or(said.first),
             last: idle.after.or(said.end),
-            credit: idle.credit,
+            credit: self.credit(idle.credit),
             is_silent: one.life.is_silent,
             ..self.application(side, CauseWhy::Between, end - begin)
         })

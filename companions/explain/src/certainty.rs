@@ -2,9 +2,11 @@
 
 use std::collections::{HashMap, VecDeque};
 
+use joined::Inferred;
 use reports::{grouped, Finding};
 
 use crate::answer::{At, Certainty};
+use crate::joining::is_by_inference;
 use crate::learning::Known;
 use crate::seen::Key;
 use crate::settings::{Settings, ENABLE_PUSH, INITIAL_WINDOW, MAX_FRAME_SIZE};
@@ -54,8 +56,13 @@ fn key_of(fault: &Finding) -> Key {
     (fault.side as usize, u32::try_from(fault.stream).unwrap_or(u32::MAX))
 }
 
-/// Why it can be doubted.
-pub fn certainty_of(fault: &Finding, known: &Known, settings: &Settings) -> (Certainty, String) {
+/// Why it can be doubted, also by what is inferred of its connection.
+pub fn certainty_of(
+    fault: &Finding,
+    known: &Known,
+    settings: &Settings,
+    inferred: Option<&Inferred>,
+) -> (Certainty, String) {
     for (side, gap) in known.gaps.iter().enumerate() {
         if gap.is_some() && fault.record > known.arrivals[side] {
             let why = format!("bytes of the {} were lost before it, so it may not have happened", side_of(side));
@@ -65,6 +72,10 @@ pub fn certainty_of(fault: &Finding, known: &Known, settings: &Settings) -> (Cer
     if let Some((_, packet)) = known.back.filter(|back| back.0 <= fault.record) {
         let front = format!("the connection's times go back at packet {packet}");
         return (Certainty::Clock, format!("{front}, so its packets may stand in another order: {}", known.help));
+    }
+    if inferred.map_or(false, |inferred| is_by_inference(inferred, fault)) {
+        let why = "it rests on what is inferred of a connection that began before the capture";
+        return (Certainty::Joined, why.to_string());
     }
     match other_settings(fault, settings) {
         Some(why) => (Certainty::Settings, why),
@@ -154,25 +165,25 @@ mod tests {
     fn the_first_doubt_counts() {
         let mut known = known();
         let overrun = fault("stream-overrun", 1, -10);
-        assert_eq!(certainty_of(&overrun, &known, &Settings::default()), (Certainty::Certain, String::new()));
-        let (certainty, why) = certainty_of(&overrun, &known, &settings());
+        assert_eq!(certainty_of(&overrun, &known, &Settings::default(), None), (Certainty::Certain, String::new()));
+        let (certainty, why) = certainty_of(&overrun, &known, &settings(), None);
         assert_eq!(certainty, Certainty::Settings);
         let gone = "it is gone if the SETTINGS in packet 4 count from there on: the server had not acknowledged them";
         assert_eq!(why, gone);
         known.back = Some((9, 70));
-        let (certainty, why) = certainty_of(&overrun, &known, &settings());
+        let (certainty, why) = certainty_of(&overrun, &known, &settings(), None);
         assert_eq!(certainty, Certainty::Clock);
         assert!(why.ends_with("packet 70, so its packets may stand in another order: --reorder"));
         known.gaps[0] = Some(Arrival { packet: 5, nanos: 0 });
         known.arrivals[0] = 9;
-        assert_eq!(certainty_of(&overrun, &known, &settings()).0, Certainty::Clock, "the gap is behind it");
+        assert_eq!(certainty_of(&overrun, &known, &settings(), None).0, Certainty::Clock, "the gap is behind it");
         known.arrivals[0] = 8;
-        assert_eq!(certainty_of(&overrun, &known, &settings()).0, Certainty::Gap);
+        assert_eq!(certainty_of(&overrun, &known, &settings(), None).0, Certainty::Gap);
     }
 
     #[test]
     fn settings_on_which_a_fault_hangs() {
-        let certainty = |kind, value| certainty_of(&fault(kind, 1, value), &known(), &settings()).0;
+        let certainty = |kind, value| certainty_of(&fault(kind, 1, value), &known(), &settings(), None).0;
         assert_eq!(certainty("stream-overrun", -4001), Certainty::Certain);
         assert_eq!(certainty("stream-overrun", -4000), Certainty::Settings);
         assert_eq!(certainty("long-frame", 20_000), Certainty::Settings);

@@ -74,6 +74,8 @@ pub struct Charts {
     open: HashSet<Key>,
     /// The stream that the frame opened.
     pub opened: Option<u32>,
+    /// Whether the windows of the connection begin with 65,535 bytes, as where its beginning was captured.
+    pub begins_with_first_credit: bool,
 }
 
 /// A stream's window, with its credit beside the initial window while it is live, and how often that had changed.
@@ -178,6 +180,7 @@ impl Charts {
             marks: marks_of(audit),
             open: open_of(audit),
             opened: None,
+            begins_with_first_credit: true,
         }
     }
 
@@ -243,7 +246,7 @@ impl Charts {
 
     /// All that is shown, where the connection lasts from a moment to another, with so many frames.
     pub fn end(self, (begin, until): (Nanos, Nanos), frames: u64) -> ChartsSaid {
-        let Charts { choice, connection, streams, initials, others, open, .. } = self;
+        let Charts { choice, connection, streams, initials, others, open, begins_with_first_credit, .. } = self;
         let room = &choice.room;
         let mut streams: Vec<_> = streams.into_iter().collect();
         streams.sort_unstable_by_key(|one| one.0); // points are left out in the order in which room is asked for
@@ -259,7 +262,7 @@ impl Charts {
         let mut found: Vec<(u64, Key, Series)> = Vec::new();
         for (key, mut series) in connection.chain(streams).filter(|one| one.1.last.is_some()) {
             let first = series.first;
-            if key.1 == 0 {
+            if key.1 == 0 && begins_with_first_credit {
                 series.begin(Point { frame: 0, time: begin, credit: FIRST_CREDIT });
             }
             if key.1 == 0 || open.contains(&key) {

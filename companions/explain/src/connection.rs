@@ -3,10 +3,12 @@
 use std::rc::Rc;
 
 use captures::Arrival;
+use joined::Inferred;
 use programs::Failure;
 
 use crate::answer::{ConnectionSaid, Nanos, RoundTrip, Source, StallSaid, StallWhy};
 use crate::audit::{broken, Audit};
+use crate::beginning::Beginning;
 use crate::blocks::Blocks;
 use crate::charts::Charts;
 use crate::course::{Course, Waits};
@@ -48,13 +50,18 @@ impl Connection {
         known: Box<Known>,
         audit: Audit,
         course: &mut import::Course,
+        inferred: Option<Rc<Inferred>>,
         asking: &Asking,
     ) -> Result<Connection, Failure> {
         let frames = audit.frames().unwrap_or(0);
         let stop = stop_of(&audit)?;
         let all_frames = asking.has_frames.then(|| Frames::new(known.initials, course));
-        let about = about(&known, &audit, course, stop);
-        let charts = asking.charts.as_ref().map(|choice| Box::new(Charts::new(choice, &audit, asking.numbers)));
+        let about = About { inferred, ..about(&known, &audit, course, stop) };
+        let charts = asking.charts.as_ref().map(|choice| {
+            let mut charts = Box::new(Charts::new(choice, &audit, asking.numbers));
+            charts.begins_with_first_credit = about.inferred.is_none();
+            charts
+        });
         let findings = Findings::new(audit.faults, &audit.stalls, &about);
         let unshown =
             [0, 1].map(|side| Walk::unshown_of(&about, side).map(|nanos| (Unshown::of_connection(nanos), Vec::new())));
@@ -68,7 +75,7 @@ impl Connection {
             table: Table::new(about.round_trip.nanos().unwrap_or(0), asking.numbers, asking.live.clone()),
             blocks: [(); 2].map(|()| Blocks::new(asking.names.are_wanted)),
             signals: Default::default(),
-            leaks: leaks_of(&findings.stalls),
+            leaks: if about.inferred.is_none() { leaks_of(&findings.stalls) } else { [None, None] },
             findings,
             unanswered: Unanswered::new(known.unanswered.clone(), known.acknowledged),
             bursts: Default::default(),
@@ -80,6 +87,8 @@ impl Connection {
             overflow: None,
             early_grants: Default::default(),
             charts,
+            beginning: about.inferred.clone().map(|inferred| Box::new(Beginning::new(inferred))),
+            has_frames: [false; 2],
             about,
             known,
         };
@@ -150,6 +159,9 @@ fn stop_of(audit: &Audit) -> Result<Option<Nanos>, Failure> {
         Some(frame) => frame,
         None => return Ok(None),
     };
+    if audit.stop.is_some() {
+        return Ok(audit.stop);
+    }
     let error = audit.faults.last().filter(|fault| fault.frame == u64::from(frame));
     let time = error.and_then(|fault| Nanos::try_from(fault.time).ok());
     time.map(Some).ok_or_else(|| broken("it stopped without an error"))
@@ -178,6 +190,7 @@ fn about(known: &Known, audit: &Audit, course: &mut import::Course, stop: Option
         lost,
         courses,
         stalls: About::stalls_of(&audit.stalls, unseen),
+        inferred: None,
         tcp,
     }
 }
@@ -208,7 +221,11 @@ type CutFrames = [Option<(u32, Box<[Nanos]>)>; 2];
 
 fn ended(walk: Walk, said: &mut ConnectionSaid) -> Rc<(Packed, Seen)> {
     let Walk { mut about, known, table, initials, windows, settings, blocks, signals, findings, leaks, .. } = walk;
-    let Walk { unanswered, bursts, unshown, mut uses_window, stop, charts, .. } = walk;
+    let Walk { unanswered, bursts, unshown, mut uses_window, stop, charts, beginning, .. } = walk;
+    let doubtful = beginning.as_ref().map(|beginning| beginning.doubtful()).unwrap_or_default();
+    if let (Some(joined), Some(beginning)) = (&mut said.joined, beginning) {
+        joined.windows = beginning.windows();
+    }
     let is_kept = known.back.is_some();
     let packed = table.end(|stream| {
         stream.sides.iter_mut().zip(&initials).for_each(|(one, initial)| one.window.look(initial));
@@ -248,6 +265,7 @@ fn ended(walk: Walk, said: &mut ConnectionSaid) -> Rc<(Packed, Seen)> {
         granted_windows: windows.map(|window| window.first.unwrap_or(0).max(window.credit).max(FIRST_CREDIT)),
         unshown,
         changes,
+        doubtful,
         about,
     };
     Rc::new((packed, seen))

@@ -104,7 +104,7 @@ impl Talk {
             live: Rc::default(),
         };
         let mut said = unsaid(1, String::new(), String::new(), known.opened);
-        let mut connection = Connection::new(Box::new(known), audit, &mut courses.connections[0], &asking)?;
+        let mut connection = Connection::new(Box::new(known), audit, &mut courses.connections[0], None, &asking)?;
         let mut reader = log.reader().expect("a file");
         while let Some(entry) = reader.next().expect("an entry") {
             if let Found::Frames(frames) = &entry.found {

@@ -7,6 +7,7 @@ use import::{help_for, Courses, Older, Summary, Uncaptured};
 use reports::grouped;
 
 use crate::answer::{Answer, Files, NotAudited, Place, RoundTrip, Warning};
+use crate::joining::is_told;
 use crate::passed::passed_over;
 use crate::rounds::NEAR;
 use crate::side_of;
@@ -16,7 +17,7 @@ use crate::words::{count, reason_words, time_of};
 const ONE_DIRECTION: &str = "one-direction";
 
 /// What the capture holds beside what was audited, by reasons.
-pub fn not_audited(answer: &Answer, summary: &Summary) -> Vec<NotAudited> {
+pub fn not_audited(answer: &Answer, summary: &Summary, courses: &Courses) -> Vec<NotAudited> {
     let mut reasons: BTreeMap<&str, u64> = BTreeMap::new();
     for one in answer.connections.iter().filter(|one| !one.is_audited()) {
         let reason = if one.reason.is_empty() { one.outcome.name() } else { &one.reason };
@@ -24,12 +25,13 @@ pub fn not_audited(answer: &Answer, summary: &Summary) -> Vec<NotAudited> {
     }
     let mut said: Vec<NotAudited> = Vec::new();
     let mut say = |reason: &str, count: u64, text: String| said.push(NotAudited { reason: reason.into(), count, text });
-    let one_way = summary.unopened.iter().filter(|pair| pair.is_one_way).count() as u64;
+    let not_joined = || summary.unopened.iter().filter(|pair| !is_told(pair, courses));
+    let one_way = not_joined().filter(|pair| pair.is_one_way).count() as u64;
     if one_way > 0 {
         *reasons.entry(ONE_DIRECTION).or_default() += one_way;
     }
     reasons.iter().for_each(|(why, number)| say(why, *number, reason_words(why, &count(*number, "connection"))));
-    let unopened = summary.unopened.len() as u64 - one_way;
+    let unopened = not_joined().count() as u64 - one_way;
     if unopened > 0 {
         say("unopened", unopened, count(unopened, "connection") + " that began before the capture");
     }

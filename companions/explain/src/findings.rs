@@ -9,6 +9,7 @@ use reports::Finding;
 use crate::answer::{At, FaultSaid, StallSaid};
 use crate::audit::{broken, StallAt, Stalled};
 use crate::certainty::{certainty_of, set_by, windows_of, Grants};
+use crate::joining::sure_of;
 use crate::learning::Known;
 use crate::seen::{About, Key};
 use crate::settings::Settings;
@@ -38,6 +39,8 @@ pub struct Here<'a> {
     pub at: At,
     pub record: u64,
     pub kind: u8,
+    /// Whether it is its side's first.
+    pub is_first: bool,
     /// The credit that a grant of it would have made, where that is too high.
     pub overflow: Option<i64>,
     pub known: &'a Known,
@@ -47,7 +50,11 @@ pub struct Here<'a> {
 
 impl Findings {
     pub fn new(faults: Vec<Finding>, stalls: &[Stalled], about: &About) -> Findings {
-        let said = |one: &Stalled| stall_said(one, &about.tcp, about.unseen, &about.round_trip);
+        let said = |one: &Stalled| {
+            let inferred = about.inferred.as_ref();
+            let sure = inferred.and_then(|inferred| sure_of(inferred, one.side, one.stream, one.begin.time));
+            StallSaid { sure, ..stall_said(one, &about.tcp, about.unseen, &about.round_trip) }
+        };
         let begins = stalls.iter().enumerate().map(|(stall, one)| End { stall, is_begin: true, at: one.begin });
         let ends = stalls.iter().enumerate().filter_map(|(stall, one)| {
             let at = one.end?;
@@ -89,6 +96,11 @@ impl Findings {
             None => return Ok(()),
         };
         let StallAt { frame, record, time, credit: told } = end.at;
+        if frame == 0 {
+            // It goes on since before the capture: it began among frames that were made up.
+            said.begin = here.about.opened;
+            return Ok(());
+        }
         if (frame, record, time) != (here.at.frame, here.record, here.at.time) {
             return Err(broken("its frames are others"));
         }
@@ -118,7 +130,12 @@ impl Findings {
         if told != Some(fault.value) {
             return Err(broken("its credits are others"));
         }
-        let (certainty, doubt) = certainty_of(&fault, here.known, here.settings);
+        let is_within = here.is_first && fault.kind.name() == "broken-block" && here.about.inferred.is_some();
+        if is_within {
+            // The block may have begun before the capture.
+            return Ok(());
+        }
+        let (certainty, doubt) = certainty_of(&fault, here.known, here.settings, here.about.inferred.as_deref());
         let (set_by, set_text) = set_by(&fault, here.settings, &self.grants);
         self.said.push(FaultSaid { finding: fault, at: here.at, certainty, doubt, set_by, set_text });
         Ok(())

@@ -35,6 +35,9 @@ pub struct Known {
     pub gaps: [Option<Arrival>; 2],
     pub arrivals: [u64; 2],
     pub frames: u32,
+    /// How many frames were made up, and how many bytes of each side, of one that began before the capture.
+    pub made: u32,
+    pub made_bytes: [u64; 2],
     /// Of each side the stream of a frame whose rest did not come, and when its packets came.
     pub cuts: [Option<(u32, Box<[Nanos]>)>; 2],
     /// The quickest reactions of each side to what the other one sends.
@@ -59,6 +62,10 @@ pub struct Learned {
     is_early: bool,
     sides: [Side; 2],
     frames: u32,
+    /// Whether what comes was made up; how many frames were, and how many bytes of each side.
+    is_made: bool,
+    made: u32,
+    made_bytes: [u64; 2],
     reactions: Reactions,
 }
 
@@ -88,6 +95,9 @@ impl Learned {
             is_early: false,
             sides: [side(true), side(false)],
             frames: 0,
+            is_made: false,
+            made: 0,
+            made_bytes: [0; 2],
             reactions: Reactions::default(),
         }
     }
@@ -133,7 +143,7 @@ impl Learned {
     }
 
     fn bytes(&mut self, came: &Came, offset: u32, data: &[u8], log: &mut FrameLog) -> io::Result<()> {
-        let Learned { sides, frames, reactions, .. } = self;
+        let Learned { sides, frames, made, reactions, is_made, .. } = self;
         let Came { record, at, side, .. } = *came;
         let begun = sides[1 - side].cutter.cut_frame().map(|cut| cut.0);
         let one = &mut sides[side];
@@ -145,9 +155,16 @@ impl Learned {
         if one.spoken.0 == Spoken::Nothing {
             one.spoken = (Spoken::by(&data), at.packet);
         }
+        if *is_made {
+            self.made_bytes[side] += data.len() as u64;
+        }
         one.cutter.take(&data, at.time, |cut| {
-            *frames += 1;
-            reactions.take(side, *frames, cut);
+            if *is_made {
+                *made += 1;
+            } else {
+                *frames += 1;
+                reactions.take(side, *frames, cut);
+            }
             log.push(cut);
         });
         log.end(came, begun)
@@ -167,6 +184,8 @@ impl Learned {
             gaps: [0, 1].map(|side| self.sides[side].flow.behind_hole()),
             arrivals: [0, 1].map(|side| self.sides[side].arrival),
             frames: self.frames,
+            made: self.made,
+            made_bytes: self.made_bytes,
             cuts: [0, 1].map(|side| {
                 let cut = self.sides[side].cutter.cut_frame();
                 cut.map(|(stream, times)| (stream, times.into()))
@@ -237,6 +256,7 @@ impl Listener for Learning {
         if let Some(Some(learned)) = self.connections.get_mut(connection) {
             let import::Written { sequence, flags, .. } = record.segment;
             learned.met(record.number, at, side, (sequence, flags));
+            learned.is_made = record.is_made;
             let came = Came { record: record.number, at, connection, side };
             let payload = Payload { sequence, flags, octets: record.segment.payload() };
             if let (Err(error), None) = (learned.take(&came, &payload, &mut self.log), &self.failure) {

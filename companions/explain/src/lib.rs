@@ -12,6 +12,7 @@ use reports::Side;
 
 pub mod answer;
 mod audit;
+mod beginning;
 mod blocks;
 mod building;
 mod bursts;
@@ -29,6 +30,7 @@ mod frame_log;
 pub mod frames;
 mod hung;
 pub mod intervals;
+mod joining;
 mod leaks;
 mod learning;
 mod life;

@@ -3,11 +3,12 @@
 
 use std::rc::Rc;
 
-use crate::answer::{Direction, Ended, Nanos, Request, Share};
+use crate::answer::{Direction, Ended, How, Nanos, Request, Share};
 use crate::causes::{no_cause, Held};
 use crate::names::{name_of, Texts};
 use crate::packed::{pack, unpack};
 use crate::seen::Seen;
+use crate::side_of;
 use crate::stream::{self, Asked, Stream};
 
 /// The requests of a connection, in the order of their openings.
@@ -150,11 +151,20 @@ impl Packed {
 
 /// The request that a stream is.
 fn told(stream: &mut Stream, seen: &Seen, texts: Option<&Texts>) -> Request {
-    let ends = [0, 1].map(|side| seen.end_of(stream, side));
+    let was_open = seen.about.was_open(stream.number);
+    let is_unseen = |side: usize| was_open && is_unseen(stream, side);
+    let unseen = [0, 1].map(is_unseen);
+    let ends = [0, 1].map(|side| match unseen[side] {
+        true => Ended { how: How::EndStream, side: Some(side_of(side)), code: None, at: Some(stream.opened) },
+        false => seen.end_of(stream, side),
+    });
     let time = |end: &Ended| end.at.map_or(0, |at| at.time);
     let ended = if time(&ends[1]) > time(&ends[0]) { ends[1] } else { ends[0] };
     let until = ends.iter().filter_map(|end| end.at).map(|at| at.time).fold(stream.opened.time, Nanos::max);
-    let sides = [direction(stream, 0, seen, &ends[0]), direction(stream, 1, seen, &ends[1])];
+    let sides = [0, 1].map(|side| match unseen[side] {
+        true => Direction { end: None, ..direction(stream, side, seen, &ends[side]) },
+        false => direction(stream, side, seen, &ends[side]),
+    });
     let [method, path, authority] = names(stream.request, texts);
     let fields = stream.answer.fields;
     let mut request = Request {
@@ -175,12 +185,19 @@ fn told(stream: &mut Stream, seen: &Seen, texts: Option<&Texts>) -> Request {
         is_hung: false,
         hung_nanos: 0,
         is_end_unseen: seen.is_end_unseen(&ended, until),
+        was_open,
     };
     let held = Held { seen, stream, request: &request, ends: ends.map(|end| end.how) };
     let found = held.found();
     (request.cause, request.held) = (found.cause, found.held);
     (request.is_hung, request.hung_nanos) = (found.hung.is_some(), found.hung.unwrap_or(0));
     request
+}
+
+/// Whether a direction of a stream that was open when the capture began was not seen, as where it had ended before.
+fn is_unseen(stream: &Stream, side: usize) -> bool {
+    let [one, other] = [&stream.sides[side], &stream.sides[1 - side]];
+    one.first.is_none() && (other.first.is_some() || stream.reset.is_none())
 }
 
 fn names(asked: Option<Asked>, texts: Option<&Texts>) -> [Option<Rc<str>>; 3] {

@@ -2,8 +2,12 @@
 //! second walk adds to it.
 
 use std::collections::HashMap;
+use std::rc::Rc;
+
+use joined::Inferred;
 
 use crate::answer::{is_pushed, At, Ended, How, Nanos, Place, RoundTrip, StallSaid, StallWhy};
+use crate::beginning::key_of_stream;
 use crate::course::Course;
 use crate::intervals::{disjoint, Interval, Stretches};
 use crate::life::Holding;
@@ -29,12 +33,19 @@ pub struct About {
     pub courses: [Course; 2],
     /// How many stalls each stream's window has, and when they were.
     pub stalls: HashMap<Key, (u32, Vec<Interval>)>,
+    /// What is inferred of one that began before the capture.
+    pub inferred: Option<Rc<Inferred>>,
 }
 
 impl About {
     /// Whether the ends are so far from each other that what a side has sent may stand before what it sends next.
     pub fn is_far(&self) -> bool {
         self.round_trip.nanos().map_or(false, |nanos| nanos >= NEAR)
+    }
+
+    /// Whether a stream was opened before the capture.
+    pub fn was_open(&self, stream: u32) -> bool {
+        self.inferred.as_ref().map_or(false, |inferred| inferred.open.binary_search(&stream).is_ok())
     }
 
     /// What holds back a direction.
@@ -91,6 +102,8 @@ pub struct Seen {
     pub unshown: [Option<Box<Stretches<()>>>; 2],
     /// By the side that sends: when its initial window changed.
     pub changes: [Changes; 2],
+    /// When something may have waited for a window, of which that is not known.
+    pub doubtful: HashMap<Key, Interval>,
 }
 
 /// Reasons in the order of their names, of which the first counts where several took as long.
@@ -141,6 +154,16 @@ impl Seen {
     pub fn is_end_unseen(&self, ended: &Ended, until: Nanos) -> bool {
         let is_shown = matches!(ended.how, How::EndStream | How::RstStream);
         !is_shown && self.about.lost <= until
+    }
+
+    /// Whether what a side sends on a stream may have waited for a window in some stretch of time, though no stall is known.
+    pub fn may_wait(&self, side: usize, stream: u32, (begin, end): Interval) -> bool {
+        let inferred = match &self.about.inferred {
+            Some(inferred) => inferred,
+            None => return false,
+        };
+        let keys = [(side, 0), key_of_stream(inferred, side, stream)];
+        keys.iter().filter_map(|key| self.doubtful.get(key)).any(|one| one.0 < end && one.1 > begin)
     }
 
     /// Which SETTINGS made the initial window of a side what it was at a frame.

@@ -115,7 +115,8 @@ impl Queue {
 impl Settings {
     /// A side sent SETTINGS.
     pub fn sent(&mut self, side: usize, at: At, values: [Option<u32>; 3]) {
-        let is_told = self.count < MOST_TOLD;
+        // Those that were made up have no frame.
+        let is_told = self.count < MOST_TOLD && at.frame > 0;
         self.count = self.count.saturating_add(1);
         let queue = &mut self.queues[side];
         if values.iter().all(Option::is_none) {
@@ -204,16 +205,27 @@ mod tests {
     #[test]
     fn of_many_the_first_are_told_and_those_that_wait_kept() {
         let mut settings = Settings::default();
-        for number in 0..2 * MOST_TOLD {
+        for number in 1..=2 * MOST_TOLD {
             settings.sent(1, at(number), window(number));
             settings.acknowledged(0, at(number));
         }
         settings.sent(1, at(9000), window(7));
         assert_eq!(settings.queues[1].waiting.len(), 1);
-        assert_eq!(settings.initial_window(0).map(|one| one.0), Some(2 * MOST_TOLD - 1));
+        assert_eq!(settings.initial_window(0).map(|one| one.0), Some(2 * MOST_TOLD));
         let (said, [changes, _]) = settings.said();
         assert_eq!((said.len() as u32, changes.len() as u32), (MOST_TOLD, MOST_TOLD + 1));
-        assert_eq!(changes.last(), Some(&(MOST_TOLD, None)));
+        assert_eq!(changes.last(), Some(&(MOST_TOLD + 1, None)));
+    }
+
+    #[test]
+    fn those_that_were_made_up_are_not_told() {
+        let mut settings = Settings::default();
+        settings.sent(1, at(0), window(10));
+        assert_eq!(settings.acknowledged(0, at(0)), Some(10));
+        settings.sent(1, at(1), window(20));
+        assert_eq!(settings.acknowledged(0, at(2)), Some(20));
+        let (said, changes) = settings.said();
+        assert_eq!((said.len(), &changes[0][..]), (1, &[(0, None), (2, Some(0))][..]));
     }
 
     #[test]

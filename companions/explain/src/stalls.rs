@@ -38,6 +38,7 @@ pub fn stall_said(one: &Stalled, tcp: &Tcp, unseen: Nanos, round_trip: &RoundTri
         ended_by: None,
         why: StallWhy::GrantedNothing,
         late: 0,
+        sure: None,
     };
     match one.end {
         None => {

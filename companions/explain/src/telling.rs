@@ -1,18 +1,21 @@
 //! Says what became of each connection, and walks over the frames of those that were audited.
 
+use std::collections::HashSet;
 use std::rc::Rc;
 
-use import::{Became, Courses};
+use import::{Became, Courses, Fate, Summary, Unopened};
+use joined::Inferred;
 use programs::{temporary_failure, Failure, Progress};
 use reports::Form;
 
-use crate::answer::{Answer, At, ChartsSaid, ConnectionSaid, Ended, How, Outcome, Requests, RoundTrip};
+use crate::answer::{Answer, At, ChartsSaid, ConnectionSaid, Ended, How, JoinedSaid, Outcome, Requests, RoundTrip};
 use crate::audit::{broken, Audit};
 use crate::blocks::Names;
 use crate::building::{Asked, Made};
 use crate::charts::Choice;
 use crate::connection::Connection;
 use crate::frame_log::{Came, Entry, Found, FrameReader, Frames};
+use crate::joining::{is_told, without_beginning};
 use crate::learning::Known;
 use crate::names::Interner;
 use crate::spoken::{note_of, reason_of};
@@ -24,6 +27,8 @@ use crate::walk::Asking;
 const MOST_BETWEEN_LOOKS: u64 = 0x3FF;
 /// So many streams that go on are not packed, of all connections together.
 const MOST_LIVE: usize = 4096;
+/// Why nothing is said of a connection whose beginning breaks rules.
+const NO_BEGINNING: &str = "joined-beginning";
 /// What helps where times go back though packets were put in order.
 const LATER: &str = "reordercap";
 
@@ -35,7 +40,7 @@ struct Walked {
 
 enum State {
     /// None of its frames came.
-    Ahead(Box<Known>, Box<Audit>),
+    Ahead(Box<Known>, Box<Audit>, Option<Rc<Inferred>>),
     Begun(Box<Connection>),
     Over,
 }
@@ -59,12 +64,17 @@ pub fn tell(asked: &Asked<'_>, made: &mut Made, audits: Vec<Audit>, answer: &mut
     walked.resize_with(made.known.len(), || None);
     answer.connections.reserve_exact(audits.len());
     let mut numbers = std::mem::take(&mut made.order).into_iter();
-    for (index, audit) in audits.into_iter().enumerate() {
+    let untold = untold(&made.summary, &made.courses);
+    for audit in audits {
         // A report of some parts alone has not all connections.
         let is_of_it =
             |number: &usize| made.known[*number].as_ref().map_or(false, |known| known.record == audit.record);
         let number = numbers.find(is_of_it).ok_or_else(|| broken("it has other connections"))?;
+        if untold.contains(&number) {
+            continue;
+        }
         let (said, state) = said_at_first(made, audit, number)?;
+        let index = answer.connections.len();
         answer.connections.push(said);
         walked[number] = state.map(|state| Walked { index, state });
     }
@@ -158,7 +168,9 @@ fn begun<'a>(
     asking: &Asking,
 ) -> Result<&'a mut Connection, Failure> {
     *state = match std::mem::replace(state, State::Over) {
-        State::Ahead(known, audit) => State::Begun(Box::new(Connection::new(known, *audit, course, asking)?)),
+        State::Ahead(known, audit, inferred) => {
+            State::Begun(Box::new(Connection::new(known, *audit, course, inferred, asking)?))
+        }
         begun => begun,
     };
     match state {
@@ -168,7 +180,7 @@ fn begun<'a>(
 }
 
 /// What is said of a connection before its frames are; and what these are walked over with.
-fn said_at_first(made: &mut Made, audit: Audit, number: usize) -> Result<(ConnectionSaid, Option<State>), Failure> {
+fn said_at_first(made: &mut Made, mut audit: Audit, number: usize) -> Result<(ConnectionSaid, Option<State>), Failure> {
     let other = || broken("it has other connections");
     let mut known = made.known.get_mut(number).and_then(Option::take).ok_or_else(other)?;
     if made.summary.reordered.is_some() {
@@ -181,6 +193,14 @@ fn said_at_first(made: &mut Made, audit: Audit, number: usize) -> Result<(Connec
     }
     let (client, server) = made.addresses.endpoints(&outcome.ends);
     let mut said = unsaid(audit.number, client, server, known.opened);
+    let joined = made.summary.joined.binary_search_by_key(&number, |one| one.connection).ok();
+    let joined = joined.and_then(|at| made.summary.joined.get(at));
+    said.joined = joined.map(|one| Box::new(JoinedSaid { how: one.how.clone(), windows: Vec::new() }));
+    let inferred = said.joined.as_ref().and_then(|joined| joined.inferred()).cloned().map(Rc::new);
+    let is_sound = match &inferred {
+        Some(inferred) => without_beginning(&mut audit, inferred)?,
+        None => true,
+    };
     said.frames = audit.frames().unwrap_or(0);
     said.uncaptured = [0, 1].map(|side| course.sides[side].uncaptured);
     let spoken = known.spoken.map(|one| one.0);
@@ -198,6 +218,11 @@ fn said_at_first(made: &mut Made, audit: Audit, number: usize) -> Result<(Connec
         }
         became => said.tls = became.words().strip_prefix("tls ").unwrap_or_default().to_string(),
     }
+    for flow in &mut audit.flows {
+        let made = known.made_bytes[flow.side as usize];
+        flow.bytes = flow.bytes.saturating_sub(made);
+        flow.gap = flow.gap.map(|offset| offset.saturating_sub(made));
+    }
     said.gaps = audit.gaps().collect();
     said.flows = audit.flows.clone();
     for flow in &mut said.flows {
@@ -211,15 +236,28 @@ fn said_at_first(made: &mut Made, audit: Audit, number: usize) -> Result<(Connec
         Form::Refused(_) => return Err(other()),
     };
     said.reason = reason_of(said.outcome, course, spoken).unwrap_or_default().to_string();
+    if !is_sound {
+        (said.outcome, said.reason) = (Outcome::NoPreface, NO_BEGINNING.to_string());
+    }
     if !said.is_audited() {
         return Ok((said, None));
     }
     said.notes.extend(note_of(known.spoken[import::SERVER]));
-    if !known.is_http2 || said.frames != u64::from(known.frames) {
+    let made_frames: u32 = inferred.as_ref().map_or(0, |inferred| inferred.made.iter().sum());
+    if !known.is_http2 || said.frames != u64::from(known.frames) || known.made != made_frames {
         let (number, frames, here) = (said.number, said.frames, known.frames);
         return Err(broken(&format!("connection {number} has {frames} frames by the report, and {here} here")));
     }
-    Ok((said, Some(State::Ahead(known, Box::new(audit)))))
+    Ok((said, Some(State::Ahead(known, Box::new(audit), inferred))))
+}
+
+/// Connections of which nothing is said, though they were joined.
+fn untold(summary: &Summary, courses: &Courses) -> HashSet<usize> {
+    let joined_as = |pair: &Unopened| match pair.fate {
+        Fate::Joined(connection) => Some(connection),
+        Fate::NotAsked | Fate::Unjoined(_) => None,
+    };
+    summary.unopened.iter().filter(|pair| !is_told(pair, courses)).filter_map(joined_as).collect()
 }
 
 /// A connection of which nothing is said yet.
@@ -231,6 +269,7 @@ pub fn unsaid(number: u64, client: String, server: String, opened: At) -> Connec
         server,
         opened,
         outcome: Outcome::Http2,
+        joined: None,
         reason: String::new(),
         tls: String::new(),
         frames: 0,

@@ -1,5 +1,7 @@
 //! The second walk over one connection: its frames, in the order of the report's numbers.
 
+mod making;
+
 use std::cell::Cell;
 use std::collections::HashMap;
 use std::rc::Rc;
@@ -7,6 +9,7 @@ use std::rc::Rc;
 use programs::Failure;
 
 use crate::answer::{is_pushed, At, Nanos, Place};
+use crate::beginning::{Beginning, Content};
 use crate::blocks::{answered_of, asked_of, Blocks, Decoded, Names};
 use crate::bursts::Bursts;
 use crate::charts::{Charts, Choice, Left};
@@ -79,6 +82,9 @@ pub struct Walk {
     /// Grants for streams that are not opened yet: by the side that may send, with their times.
     pub early_grants: HashMap<Key, Vec<(Nanos, u32)>>,
     pub charts: Option<Box<Charts>>,
+    /// What was made up of a connection that began before the capture, and whether a frame of each side was captured.
+    pub beginning: Option<Box<Beginning>>,
+    pub has_frames: [bool; 2],
 }
 
 /// A frame of a side: when its packets came, where it ends, and at which record.
@@ -90,13 +96,16 @@ pub struct Frame<'a> {
     record: u64,
     /// Whether the report judges it.
     is_judged: bool,
+    /// Whether it is its side's first.
+    is_first: bool,
 }
 
 impl Walk {
     /// The sides of which stalls may not show are those that send to where the capture was made.
     pub fn unshown_of(about: &About, side: usize) -> Option<Nanos> {
         let receiver = [Place::AtServer, Place::AtClient][side];
-        (about.captured_at == Some(receiver)).then(|| about.round_trip.nanos().unwrap_or(0))
+        let is_known = about.inferred.is_none() && about.captured_at == Some(receiver);
+        is_known.then(|| about.round_trip.nanos().unwrap_or(0))
     }
 
     /// Takes the next frame, which a side sent.
@@ -107,13 +116,18 @@ impl Walk {
         cut: &Cut<'_>,
         (record, at): (u64, At),
     ) -> Result<(), Failure> {
+        if self.beginning.as_ref().map_or(false, |beginning| beginning.left > 0) {
+            self.make_up(asking, Frame { side, cut, at, record, is_judged: true, is_first: false });
+            return Ok(());
+        }
         self.number += 1;
         let at = At { frame: self.number, ..at };
         let is_judged = self.stopped_at.map_or(true, |stop| self.number < stop);
         if self.stopped_at == Some(self.number) {
             self.stop = Some(at);
         }
-        let frame = Frame { side, cut, at, record, is_judged };
+        let is_first = !std::mem::replace(&mut self.has_frames[side], true);
+        let frame = Frame { side, cut, at, record, is_judged, is_first };
         if let kind::DATA | kind::HEADERS | kind::PUSH_PROMISE | kind::CONTINUATION = cut.head.kind {
             self.about.courses[side].sent(cut.times);
         }
@@ -136,7 +150,8 @@ impl Walk {
         if self.findings.stands_at(self.number) {
             let Walk { findings, about, known, settings, table, initials, windows, overflow, .. } = self;
             let (at, record, kind) = (frame.at, frame.record, frame.cut.head.kind);
-            let here = Here { at, record, kind, overflow: *overflow, known, about, settings };
+            let is_first = frame.is_first;
+            let here = Here { at, record, kind, is_first, overflow: *overflow, known, about, settings };
             findings.take(&here, |window| credit_of(window, table, initials, windows))?;
         }
         for leaks in self.leaks.iter_mut().flatten() {
@@ -219,6 +234,13 @@ impl Walk {
             totals[side].passes(&stream.sides[side], frame.at);
             stream.note_use(uses_window);
         });
+        if let Some(beginning) = &mut self.beginning {
+            let number = cut.head.stream;
+            let own = table.look(number, |stream| stream.sides[side].window.value(&initials[side])).flatten();
+            let (left, ends) = ([own, Some(windows[side].credit)], cut.head.has(flag::END_STREAM));
+            let first = cut.times.first().copied().unwrap_or(frame.at.time);
+            beginning.content(&Content { side, stream: number, first, last: frame.at.time, ends, left });
+        }
         if let (None, Some(leaks)) = (touched, &mut leaks[side]) {
             leaks.content(None, length);
         }
@@ -332,7 +354,7 @@ impl Walk {
             Some(code) if cut.head.length == 4 => code,
             _ => return,
         };
-        let Walk { table, initials, leaks, signals, unanswered, bursts, uses_window, totals, .. } = self;
+        let Walk { table, initials, leaks, signals, unanswered, bursts, uses_window, totals, about, .. } = self;
         table.touch(cut.head.stream, |stream| {
             if stream.reset.is_some() {
                 return;
@@ -346,7 +368,9 @@ impl Walk {
             leaks.iter_mut().flatten().for_each(|leaks| leaks.reset(stream));
             signals.reset(stream, &reset);
             bursts.reset(side, at, code);
-            unanswered.reset(side, at, code, (stream, &initials[side]));
+            if about.inferred.is_none() {
+                unanswered.reset(side, at, code, (stream, &initials[side]));
+            }
             stream.note_use(uses_window);
         });
     }
@@ -355,7 +379,7 @@ impl Walk {
         let Frame { side, cut, at, is_judged, .. } = frame;
         if cut.head.has(flag::ACK) {
             let initial = if cut.head.length == 0 { self.settings.acknowledged(side, at) } else { None };
-            if cut.head.length == 0 {
+            if cut.head.length == 0 && self.about.inferred.is_none() {
                 self.unanswered.acknowledged(side, at);
             }
             if let Some(initial) = initial.filter(|_| is_judged) {
@@ -367,7 +391,9 @@ impl Walk {
             return;
         }
         let Values { header_table, values } = Values::of(cut.payload);
-        self.unanswered.sent(side, at, &values, (&self.table, &self.initials[1 - side]));
+        if self.about.inferred.is_none() {
+            self.unanswered.sent(side, at, &values, (&self.table, &self.initials[1 - side]));
+        }
         self.settings.sent(side, at, values);
         if let Some(size) = header_table.filter(|_| asking.names.are_wanted) {
             self.blocks[1 - side].allow_table(size);
@@ -436,6 +462,12 @@ fn met(
     };
     let met = Met { times: cut.times, at, credit: credit(stream, side) };
     let mut holding = about.holding(side, stream.number);
+    let ends = cut.head.kind != kind::CONTINUATION && cut.head.has(flag::END_STREAM);
+    if stream.sides[side].first.is_none() && about.was_open(stream.number) && (ends || cut.head.kind != kind::HEADERS) {
+        // It had begun before the capture.
+        let met = Met { times: &[stream.opened.time], at: stream.opened, credit: credit(stream, side) };
+        stream.sides[side].met(&holding, &met);
+    }
     if stream.sides[side].first.is_none() {
         match about.is_far() && totals[side].is_turn(stream, side, cut.times) {
             // What begins in the packet in which this frame ends stood behind it.
@@ -451,7 +483,6 @@ fn met(
         stream.sides[other].asked = at;
         stream.sides[other].begin_beside(&totals[other]);
     }
-    let ends = cut.head.kind != kind::CONTINUATION && cut.head.has(flag::END_STREAM);
     let one = &mut stream.sides[side];
     totals[side].ended += u32::from(ends && one.end.is_none() && one.content > 0);
     if ends {

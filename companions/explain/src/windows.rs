@@ -92,6 +92,11 @@ impl Window {
         None
     }
 
+    /// All that was before is not told: what it is now is the most that it had.
+    pub fn begin_anew(&mut self, initial: &Initial) {
+        (self.largest, self.first, self.change) = (None, None, initial.changes);
+    }
+
     pub fn end(&mut self, initial: &Initial) {
         if self.is_live {
             self.look(initial);

@@ -22,10 +22,11 @@ const CODES: [&str; 14] = [
 ];
 const UNITS: [(&str, Nanos); 3] = [("s", 1_000_000_000), ("ms", 1_000_000), ("µs", 1_000)];
 /// Why connections were not audited, in words behind "3 connections".
-const REASONS: [(&str, &str); 14] = [
+const REASONS: [(&str, &str); 15] = [
     ("no-key", " of TLS without a key in the key logs (-k)"),
     ("wrong-key", " of TLS whose keys in the key logs are those of another run"),
     ("one-direction", " of which one direction alone was captured"),
+    ("joined-beginning", " that began before the capture, and of which nothing that fits could be inferred"),
     ("no-syn-ack", " whose SYN ACK was not captured"),
     ("no-answer", " whose SYN had no answer"),
     ("refused-port", " that the server refused: an RST answered the SYN"),

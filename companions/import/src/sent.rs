@@ -3,7 +3,7 @@
 
 use std::collections::BTreeMap;
 
-use captures::{flags, offset_of, Arrival, Segment, END_OF_OFFSETS};
+use captures::{flags, offset_of, placed, Arrival, Segment, END_OF_OFFSETS};
 
 use crate::course::Uncaptured;
 
@@ -29,6 +29,8 @@ pub enum Fresh {
 #[derive(Default)]
 pub struct Sent {
     initial: Option<u32>,
+    /// Whether its first byte is not the first that was captured.
+    is_within: bool,
     /// The offset behind all bytes that came.
     reached: u32,
     /// Holes before that: begin and end of each.
@@ -67,9 +69,10 @@ fn print_of(sequence: u32, identification: u16, octets: &[u8]) -> u64 {
 }
 
 impl Sent {
-    /// The number before its first byte.
+    /// The number before its first byte, where bytes before that are none of what is told.
     pub fn begin(&mut self, initial: u32) {
         self.initial = Some(initial);
+        self.is_within = true;
     }
 
     /// Whether bytes are missing before some that came.
@@ -137,10 +140,10 @@ impl Sent {
         if is_double {
             return Fresh::Doubled;
         }
-        let offset = offset_of(initial, segment.sequence, segment.flags);
-        if offset >= END_OF_OFFSETS {
-            return Fresh::Bytes { fresh: 0, again: payload.len() as u32 };
-        }
+        let (offset, payload) = match placed(initial, segment.sequence, segment.flags, payload) {
+            Some(found) if self.is_within || found.1.len() == payload.len() => found,
+            _ => return Fresh::Bytes { fresh: 0, again: if self.is_within { 0 } else { payload.len() as u32 } },
+        };
         let end = (u64::from(offset) + payload.len() as u64).min(u64::from(END_OF_OFFSETS)) as u32;
         let fresh = self.cover(offset, end);
         Fresh::Bytes { fresh, again: end - offset - fresh }
@@ -218,7 +221,7 @@ mod tests {
 
     #[test]
     fn packets_that_differ_have_other_prints() {
-        let octets: Vec<u8> = (0..100).collect();
+        let octets: Vec<u8> = (1..=100).collect();
         let mut prints: Vec<u64> = (0..=octets.len()).map(|length| print_of(0, 0, &octets[..length])).collect();
         prints.extend((0..=70).map(|length| print_of(0, 0, &vec![0; length])));
         prints.extend([print_of(1, 0, &octets), print_of(0, 1, &octets)]);

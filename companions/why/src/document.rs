@@ -4,13 +4,14 @@ use std::io::{self, Write};
 
 use explain::answer::{
     Answer, At, Cause, CauseKind, CauseWhy, Certainty, ConnectionSaid, Direction, Ended, FaultSaid, Files, Holder,
-    Nanos, Place, Request, RoundTrip, Share, Signal, Source, Span, StallEnd, StallSaid, StallWhy,
+    Nanos, Place, Request, RoundTrip, Share, Signal, Source, Span, StallEnd, StallSaid, StallWhy, Sure,
 };
 use reports::{section_of, sentence_of, Side};
 
 use crate::asked::Shown;
 use crate::charts;
 use crate::gates::is_unanswered;
+use crate::joined;
 use crate::json::Json;
 use crate::life::life_of;
 use crate::phrases::{how_name, Phrases};
@@ -164,6 +165,7 @@ fn of_connection(json: &mut Json<'_>, said: &ConnectionSaid, files: &Files) {
     json.name("server").text(&said.server);
     place(json.name("opened"), Some(said.opened), files);
     json.name("outcome").word(said.outcome.name());
+    joined::write(json.name("joined"), said);
     json.name("reason").some_text(Some(&said.reason));
     json.name("tls").some_text(Some(&said.tls));
     json.name("frames").number(said.frames);
@@ -226,6 +228,7 @@ fn stall(json: &mut Json<'_>, said: &StallSaid, of: &ConnectionSaid, files: &Fil
         json.name("why").word(stall_name(said.why));
         json.name("ask").word(said.side.other().name());
         json.name("late_nanos").number(said.late);
+        json.name("grade").some_word(said.sure.map(Sure::name));
         json.name("holder").some(of.holders.iter().find(is_its), |json, one| {
             json.object(|json| {
                 json.name("stream").number(one.stream);
@@ -279,6 +282,7 @@ fn request(json: &mut Json<'_>, one: &Request, phrases: &Phrases<'_>, files: &Fi
     json.name("hung_nanos").some_number(Some(one.hung_nanos).filter(|_| one.is_hung));
     json.name("unanswered").truth(is_unanswered(one));
     json.name("end_unseen").truth(one.is_end_unseen);
+    json.name("opened_before").truth(one.was_open);
     cause(json.name("cause"), one, phrases, files);
     json.name("needed_window").some_number(phrases.needed_window(one));
     json.name("life").some(life_of(one).as_deref(), |json, life| json.text(life));
@@ -322,6 +326,7 @@ pub fn cause(json: &mut Json<'_>, of: &Request, phrases: &Phrases<'_>, files: &F
         place(json.name("last"), one.last, files);
         json.name("text").text(&phrases.of(of));
         json.name("proved").truth(one.is_proved);
+        json.name("grade").some_word(one.sure.map(Sure::name));
     });
 }
 
@@ -394,6 +399,7 @@ pub fn certainty_name(certainty: Certainty) -> &'static str {
         Certainty::Settings => "settings",
         Certainty::Gap => "gap",
         Certainty::Clock => "clock",
+        Certainty::Joined => "joined",
     }
 }
 

@@ -1,6 +1,6 @@
 //! What fails a run in CI: the reasons that a command line may name, and what holds of each in an answer.
 
-use explain::answer::{is_pushed, At, CauseKind, ConnectionSaid, Files, How, Nanos, Request, Share};
+use explain::answer::{is_pushed, At, CauseKind, Certainty, ConnectionSaid, Files, How, Nanos, Request, Share};
 use explain::words::reason_words;
 use reports::{grouped, Side};
 
@@ -14,6 +14,8 @@ use crate::wording::{code_name, escaped, grpc_name, time_of};
 pub enum Reason {
     Fault,
     CertainFault,
+    /// A fault that rests on what is inferred.
+    JoinedFault,
     Stall,
     Hung,
     Tcp,
@@ -33,9 +35,10 @@ pub enum Reason {
 
 impl Reason {
     /// Those that `--fail-on` takes.
-    pub const NAMED: [Reason; 11] = [
+    pub const NAMED: [Reason; 12] = [
         Reason::Fault,
         Reason::CertainFault,
+        Reason::JoinedFault,
         Reason::Stall,
         Reason::Hung,
         Reason::Tcp,
@@ -51,6 +54,7 @@ impl Reason {
         match self {
             Reason::Fault => "fault",
             Reason::CertainFault => "certain-fault",
+            Reason::JoinedFault => "joined-fault",
             Reason::Stall => "stall",
             Reason::Hung => "hung",
             Reason::Tcp => "tcp",
@@ -167,7 +171,8 @@ impl Finding<'_> {
             let (fault, packet) = (told.fault, format!("packet {}", self.packet(told.fault.at)));
             let doubt = if fault.is_doubtful() { format!("; doubtful: {}", fault.doubt) } else { String::new() };
             let text = told.sentence(&packet) + &doubt;
-            self.add(Reason::Fault, place, || text.clone());
+            let is_joined = fault.certainty == Certainty::Joined;
+            self.add(if is_joined { Reason::JoinedFault } else { Reason::Fault }, place, || text.clone());
             if !fault.is_doubtful() {
                 self.add(Reason::CertainFault, place, || text);
             }

@@ -8,6 +8,7 @@ use std::io::{self, Write};
 use explain::answer::Nanos;
 
 use crate::gates::{name_of, not_audited_words, Failure, Place};
+use crate::joined::lines_of;
 use crate::summing::{Connection, Whole};
 use crate::wording::escaped;
 
@@ -152,7 +153,8 @@ impl<'a> Suite<'a> {
                 Case {
                     name: "connection".to_string(),
                     nanos: self.nanos(),
-                    said: self.lines(one.said.notes.iter().cloned(), place),
+                    said: self
+                        .lines(lines_of(one.said, false).into_iter().chain(one.said.notes.iter().cloned()), place),
                     skipped: (!one.said.is_audited()).then(|| not_audited_words(one.said)),
                     failures: self.failures(place),
                 }

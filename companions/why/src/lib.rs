@@ -13,6 +13,7 @@ mod ends_said;
 mod ends_stalls;
 mod faults;
 mod gates;
+mod joined;
 mod junit;
 mod life;
 mod page;

@@ -144,6 +144,7 @@ fn explained<'a>(asked: &'a Asked, files: &'a [OsString]) -> explain::Asked<'a> 
         files,
         key_logs: &asked.key_logs,
         is_reordered: asked.is_reordered,
+        is_joined: asked.is_joined,
         h2audit: asked.program.clone(),
         options: &asked.options,
         report: asked.audit.as_deref(),

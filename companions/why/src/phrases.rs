@@ -8,6 +8,7 @@ use explain::answer::{
 };
 use reports::{grouped, Side};
 
+use crate::joined::{mark, may_be_stalled};
 use crate::wording::{count, percent, rate_of, streams_named, time_of};
 
 /// Below this both ends are too near to tell them apart.
@@ -85,8 +86,8 @@ impl<'a> Phrases<'a> {
                 let share = percent(cause.nanos, request.nanos());
                 format!("held by TCP for {lasts} ({share}): {}", tcp_words(cause))
             }
-            CauseKind::Application => of_application(request),
-            CauseKind::Path => of_path(request),
+            CauseKind::Application => self.not_stalled(request) + &of_application(request),
+            CauseKind::Path => self.not_stalled(request) + &of_path(request),
             CauseKind::Unseen => {
                 format!("not known for {lasts}: behind a gap, or past the frame at which the audit stopped")
             }
@@ -109,13 +110,29 @@ impl<'a> Phrases<'a> {
     fn hardly(&self, request: &Request) -> String {
         let nanos: Nanos = [Side::Client, Side::Server].iter().map(|side| stalled_on(request, *side)).sum();
         if nanos == 0 {
-            return "not stalled".to_string();
+            return self.unstalled(request).to_string();
         }
         let sides = [Side::Client, Side::Server];
         let times: u64 =
             sides.map(|side| self.stalls_of(side, request.stream).map_or(0, |some| some.count)).iter().sum();
         let often = if times > 0 { format!(", {}", count(times, "time")) } else { String::new() };
         format!("stalled {} in all ({}){often}", time_of(nanos), percent(nanos, request.nanos()))
+    }
+
+    /// Of a request of which no stall is known.
+    fn unstalled(&self, request: &Request) -> &'static str {
+        match may_be_stalled(self.said, request) {
+            true => "no stall can be told",
+            false => "not stalled",
+        }
+    }
+
+    /// What stands before another cause where no window was stalled.
+    fn not_stalled(&self, request: &Request) -> String {
+        match [Side::Client, Side::Server].iter().all(|side| stalled_on(request, *side) == 0) {
+            true => format!("{}: ", self.unstalled(request)),
+            false => String::new(),
+        }
     }
 
     /// How long it was stalled, and why.
@@ -134,6 +151,7 @@ impl<'a> Phrases<'a> {
         text += &self.why(request);
         text += &self.whose(cause);
         text += &hung_before(request);
+        text += &mark(self.said, request).unwrap_or_default();
         text
     }
 
@@ -380,8 +398,7 @@ fn tcp_words(cause: &Cause) -> String {
 fn of_application(request: &Request) -> String {
     let cause = &request.cause;
     let whole = if cause.is_silent { "" } else { " on this stream" };
-    let stalled = not_stalled(request);
-    let said = format!("{stalled}the {} sent nothing{whole} for {}", cause.side, time_of(cause.nanos));
+    let said = format!("the {} sent nothing{whole} for {}", cause.side, time_of(cause.nanos));
     match cause.credit {
         Some(credit) if credit > 0 => format!("{said} with {} bytes of credit", grouped(credit)),
         // What goes before content needs no credit.
@@ -399,15 +416,7 @@ fn of_path(request: &Request) -> String {
         0 | 1 => String::new(),
         some => format!(", shared by {} streams", grouped(u64::from(some))),
     };
-    format!("{}the {} sent all the time: {lasts} at {rate}{shared}", not_stalled(request), cause.side)
-}
-
-/// What stands before another cause where no window was stalled.
-fn not_stalled(request: &Request) -> &'static str {
-    match [Side::Client, Side::Server].iter().all(|side| stalled_on(request, *side) == 0) {
-        true => "not stalled: ",
-        false => "",
-    }
+    format!("the {} sent all the time: {lasts} at {rate}{shared}", cause.side)
 }
 
 pub fn how_name(how: How) -> &'static str {

@@ -5,6 +5,7 @@ use std::collections::BinaryHeap;
 use explain::answer::{Answer, CauseKind, ConnectionSaid, Nanos, Request};
 use reports::grouped;
 
+use crate::joined;
 use crate::phrases::Phrases;
 use crate::rules::{broken, errors};
 use crate::wording::{count, time_of};
@@ -182,6 +183,8 @@ fn sentences(answer: &Answer, audited: u64, tally: &Tally, nanos: Nanos) -> Vec<
         format!("Flow control took a lesser part of {}.", count(tally.partly, "request"))
     } else if answer.audited().any(|one| !one.stalls.is_empty()) {
         "Flow control held back no request for as long as a millisecond.".to_string()
+    } else if joined::proved(answer).is_some() {
+        "No side was seen to use up its credit.".to_string()
     } else {
         "No side used up its credit.".to_string()
     });

@@ -10,6 +10,7 @@ use reports::{grouped, Side};
 
 use crate::document::signal_word;
 use crate::faults::{told, Told};
+use crate::joined;
 use crate::life::life_of;
 use crate::page::{Colour, Look, Page};
 use crate::phrases::how_name;
@@ -23,6 +24,7 @@ const MOST_SIGNALS: usize = 4;
 /// Names have at most so many columns.
 const MOST_COLUMNS: usize = 48;
 const NAME_UNKNOWN: &str = "(name unknown)";
+const PATH_UNKNOWN: &str = " (path unknown)";
 const PROVED: &str = "Faults and stalls are those of h2audit's proved report. Names, credits, lives, causes, TCP and \
                       place of capture are not: h2audit-why reads them from the frames and the packets.";
 
@@ -51,6 +53,7 @@ pub fn write(whole: &Whole<'_>, look: Look, to: &mut dyn Write) -> io::Result<()
     if whole.summary.audited > 0 {
         page.line("")?;
         page.folded(PROVED, "  ", Colour::Dim)?;
+        joined::proved(answer).map_or(Ok(()), |text| page.folded(text, "  ", Colour::Dim))?;
     }
     Ok(())
 }
@@ -77,6 +80,9 @@ fn connections(whole: &Whole<'_>, page: &mut Page<'_>) -> io::Result<()> {
 fn connection(one: &Connection<'_>, page: &mut Page<'_>) -> io::Result<()> {
     let said = one.said;
     page.folded(&head(said), "  ", Colour::Bold)?;
+    for line in joined::lines_of(said, page.look.is_all) {
+        page.folded(&format!("  {line}"), "    ", Colour::Plain)?;
+    }
     faults(said, page)?;
     requests(one, page)?;
     idle_stall(said, page)?;
@@ -137,8 +143,9 @@ fn requests(one: &Connection<'_>, page: &mut Page<'_>) -> io::Result<()> {
     ranks.sort_unstable();
     let is_shown = |rank: &&Rank| page.look.is_all || rank.1 != 0 || number <= MOST_REQUESTS;
     let shown: Vec<usize> = ranks.iter().filter(is_shown).map(|rank| rank.3).collect();
+    let is_joined = one.said.joined.is_some();
     let found = || shown.iter().filter_map(|index| one.said.requests.get(*index));
-    let width = found().map(|request| letters(&name_of(&request))).max().unwrap_or(0).min(MOST_COLUMNS);
+    let width = found().map(|request| letters(&name_of(&request, is_joined))).max().unwrap_or(0).min(MOST_COLUMNS);
     let (mut told, mut held) = (Waited::new(), 0);
     for request in found() {
         held += u64::from(is_held(&request));
@@ -148,7 +155,7 @@ fn requests(one: &Connection<'_>, page: &mut Page<'_>) -> io::Result<()> {
             () => Colour::Plain,
         };
         let cause = cause(&request, &one.phrases.of(&request), &mut told);
-        page.folded(&line_of(&request, width, &cause, page), "      ", colour)?;
+        page.folded(&line_of(&request, (name_of(&request, is_joined), width), &cause, page), "      ", colour)?;
         life_of(&request).map_or(Ok(()), |life| page.folded(&format!("      {life}"), "        ", Colour::Plain))?;
     }
     if number > shown.len() {
@@ -160,9 +167,12 @@ fn requests(one: &Connection<'_>, page: &mut Page<'_>) -> io::Result<()> {
     Ok(())
 }
 
-fn name_of(request: &Request) -> String {
+fn name_of(request: &Request, is_joined: bool) -> String {
     let pushed = if is_pushed(request.stream) { "pushed " } else { "" };
-    format!("{pushed}{}", request.name.as_deref().unwrap_or(NAME_UNKNOWN))
+    let has_target = request.path.is_some() || request.authority.is_some();
+    let is_path_known = !is_joined || has_target || request.method.is_none();
+    let unknown = if is_path_known { "" } else { PATH_UNKNOWN };
+    format!("{pushed}{}{unknown}", request.name.as_deref().unwrap_or(NAME_UNKNOWN))
 }
 
 /// What held back a request; where the connection's window did, what it was is told once.
@@ -178,12 +188,13 @@ fn cause(request: &Request, text: &str, told: &mut Waited) -> String {
     format!("{lasts}: the connection's window, as stream {stream}")
 }
 
-fn line_of(request: &Request, width: usize, cause: &str, page: &Page<'_>) -> String {
+fn line_of(request: &Request, (name, width): (String, usize), cause: &str, page: &Page<'_>) -> String {
     let mut status = request.status.map_or("-".to_string(), |status| status.to_string());
     if let Some(code) = request.grpc_status.filter(|code| *code > 0) {
         let _ = write!(status, " grpc {}", grpc_name(code));
     }
-    let (name, stream) = (name_of(request), format!("stream {}", request.stream));
+    let before = if request.was_open { " (opened before the capture)" } else { "" };
+    let stream = format!("stream {}{before}", request.stream);
     let lasts = time_of(request.nanos());
     let mut text = format!("  {name:width$}  {stream:10}  {status}  {lasts:>9}   {cause}");
     let ended = &request.ended;

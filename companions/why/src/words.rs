@@ -63,6 +63,8 @@ pub struct Asked {
     pub key_logs: Vec<OsString>,
     pub is_sorted: bool,
     pub is_reordered: bool,
+    /// Whether connections that began before the capture are joined.
+    pub is_joined: bool,
     pub is_all: bool,
     pub has_query: bool,
     pub has_names: bool,
@@ -91,6 +93,7 @@ struct Taken {
     key_logs: Vec<OsString>,
     is_sorted: bool,
     is_reordered: bool,
+    is_not_joined: bool,
     is_all: bool,
     has_query: bool,
     has_no_requests: bool,
@@ -118,6 +121,7 @@ pub fn words_of(words: Vec<OsString>) -> Result<Words, Failure> {
             Short('k') | Long("key-log") => taken.key_logs.push(parser.value().map_err(wrong)?),
             Long("sort") => taken.is_sorted = true,
             Long("reorder") => taken.is_reordered = true,
+            Long("no-joined") => taken.is_not_joined = true,
             Long("all") => taken.is_all = true,
             Long("query") => taken.has_query = true,
             Long("no-requests") => taken.has_no_requests = true,
@@ -177,6 +181,9 @@ impl Taken {
     fn asked(self) -> Result<Asked, Failure> {
         self.check()?;
         let has_gates = self.has_gates();
+        // Rows are those of h2audit-any; and two ends are known by handshakes.
+        let is_of_whole = matches!(self.form, Some((_, Asks::Rows(_)))) || self.ends.is_some();
+        let is_joined = !self.is_not_joined && !is_of_whole;
         let captures = match (self.compare, self.ends) {
             (Some(two), _) => Captures::Compare(two),
             (None, Some(two)) => Captures::Ends(two),
@@ -188,6 +195,7 @@ impl Taken {
             key_logs: self.key_logs,
             is_sorted: self.is_sorted,
             is_reordered: self.is_reordered,
+            is_joined,
             is_all: self.is_all,
             has_query: self.has_query,
             has_names: !self.has_no_requests,
