@@ -67,7 +67,7 @@ class Words(OnCaptures):
         """After two seconds a terminal shows how far the work is, also behind the import; all else shows nothing."""
         capture = self.EXAMPLE.read_bytes()
         leader, follower = pty.openpty()
-        words = [WHY, "--quiet", "-"]
+        words = [str(WHY), "--quiet", "-"]
         with (
             subprocess.Popen(words, stdin=subprocess.PIPE, stderr=follower) as shown,
             subprocess.Popen(words, stdin=subprocess.PIPE, stderr=subprocess.PIPE) as silent,
