@@ -347,11 +347,11 @@ class Tables(unittest.TestCase):
 
 
 def answers(captures: list[pathlib.Path], words: list[str]) -> Iterator[tuple[pathlib.Path, Json]]:
-    """What --json says of each capture that is not refused."""
+    """What --json says of each capture that is not refused; rows join no connection that began before."""
     keys = [word for key in KEYS for word in ("-k", str(key))]
     for path in captures:
         try:
-            yield path, said_of(*words, *keys, str(path))
+            yield path, said_of("--no-joined", *words, *keys, str(path))
         except Refused:
             continue
 

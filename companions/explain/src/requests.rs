@@ -3,7 +3,7 @@
 
 use std::rc::Rc;
 
-use crate::answer::{Direction, Ended, How, Nanos, Request, Share};
+use crate::answer::{Direction, Ended, How, Nanos, Request, Share, Shares};
 use crate::causes::{no_cause, Held};
 use crate::names::{name_of, Texts};
 use crate::packed::{pack, unpack};
@@ -153,16 +153,16 @@ impl Packed {
 fn told(stream: &mut Stream, seen: &Seen, texts: Option<&Texts>) -> Request {
     let was_open = seen.about.was_open(stream.number);
     let is_unseen = |side: usize| was_open && is_unseen(stream, side);
-    let unseen = [0, 1].map(is_unseen);
-    let ends = [0, 1].map(|side| match unseen[side] {
+    let are_unseen = [0, 1].map(is_unseen);
+    let ends = [0, 1].map(|side| match are_unseen[side] {
         true => Ended { how: How::EndStream, side: Some(side_of(side)), code: None, at: Some(stream.opened) },
         false => seen.end_of(stream, side),
     });
     let time = |end: &Ended| end.at.map_or(0, |at| at.time);
     let ended = if time(&ends[1]) > time(&ends[0]) { ends[1] } else { ends[0] };
     let until = ends.iter().filter_map(|end| end.at).map(|at| at.time).fold(stream.opened.time, Nanos::max);
-    let sides = [0, 1].map(|side| match unseen[side] {
-        true => Direction { end: None, ..direction(stream, side, seen, &ends[side]) },
+    let sides = [0, 1].map(|side| match are_unseen[side] {
+        true => unseen(direction(stream, side, seen, &ends[side])),
         false => direction(stream, side, seen, &ends[side]),
     });
     let [method, path, authority] = names(stream.request, texts);
@@ -198,6 +198,12 @@ fn told(stream: &mut Stream, seen: &Seen, texts: Option<&Texts>) -> Request {
 fn is_unseen(stream: &Stream, side: usize) -> bool {
     let [one, other] = [&stream.sides[side], &stream.sides[1 - side]];
     one.first.is_none() && (other.first.is_some() || stream.reset.is_none())
+}
+
+/// What is told of such a direction: nothing.
+fn unseen(found: Direction) -> Direction {
+    let spans = found.spans.map(|_| Vec::new());
+    Direction { nanos: 0, shares: Shares::default(), spans, end: None, waited: 0, ..found }
 }
 
 fn names(asked: Option<Asked>, texts: Option<&Texts>) -> [Option<Rc<str>>; 3] {
