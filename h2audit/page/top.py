@@ -22,7 +22,7 @@ WHY = {
     "grant-lost": "a grant was lost",
     "round-trip": "it is too small for the round trip",
     "cancelled-streams": "cancelled streams had used it up",
-    "zero-window": "the TCP window was 0",
+    "zero-window": "the TCP window was used up",
     "resent": "bytes were sent again",
     "hole": "bytes came out of order",
     "nagle": "a small piece waited for an acknowledgement",
