@@ -4,7 +4,8 @@ use Rattle.std.proofs.Common.{◌≡◌, ℕ, ◌+◌, ◌-◌, ◌^◌, ◌<◌
 use Rattle.std.proofs.Common.{Option, Global, sym, ap, subst, ◌∙◌, arith}
 use Rattle.std.specs.Prelude.{slice_range}
 use Rattle.std.specs.List.{enumerate_from}
-use Rattle.std.proofs.lemmas.List.{drop-drop, drop-take, length-append, length-map, take-take}
+use Rattle.std.proofs.lemmas.List.{drop-drop, drop-take, length-append, length-drop, length-map, length-take-le}
+use Rattle.std.proofs.lemmas.List.{take-take}
 use Rattle.pcap_records.specs.code.Walk.{AreAll, AreCaptured, Captured, IsNext, rows_of}
 use Rattle.pcap_records.specs.declared.pcap_record.Record.{Record}
 use Rattle.pcap_records.specs.declared.pcap_record.Records.{Records}
@@ -14,11 +15,11 @@ use Rattle.packet_heads.specs.declared.stage.PacketStage.{PacketStage}
 use Rattle.packet_heads.specs.declared.walk.PacketWalk.{PacketWalk}
 use Rattle.packet_heads.specs.Decision.{decision_on, packet_decision}
 use Rattle.packet_heads.specs.code.Handed.{AreHanded, ArePayloadsOf, Handed, IsHanded, IsNextPacket, packets_among}
-use Rattle.packet_heads.specs.code.Handed.{payload_in}
+use Rattle.packet_heads.specs.code.Handed.{HasPayload, payload_in}
 use Rattle.packet_heads.specs.code.Order.{AreNumberedFrom}
-use Rattle.packet_heads.specs.code.Standing.{decisions_from, StandsIn, AreDecided}
+use Rattle.packet_heads.specs.code.Standing.{AllStand, decisions_from, StandsIn, AreDecided}
 use Rattle.packet_heads.specs.code.Walk.{HasDecoded, HasMade, HasMet}
-use Rattle.packet_heads.proofs.Rows.{along}
+use Rattle.packet_heads.proofs.Rows.{along, payloads_push, payloads_rise}
 
 -- one packet for each record
 handed_count : (link number : ℕ) (seen : List Captured) (handed : List Handed) → AreHanded link number seen handed
@@ -105,6 +106,31 @@ records_of alloc link rows cut few = record {
   cut = cut;
 }
 
+-- each packet that was handed on stands in its record
+all_stand : (link number : ℕ) (seen : List Captured) (handed : List Handed) → AreHanded link number seen handed
+    → AllStand number (rows_of seen) (packets_among handed)
+all_stand link number [] [] are = tt
+all_stand link number (one ∷ seen) (h ∷ handed) are =
+    (are.0.stands, all_stand link (number + 1) seen handed are.1)
+all_stand link number _ _ are = absurd are
+
+-- what a packet carries of its record
+carried : (number : ℕ) (row : Record) (bytes payload : List ℕ) (packet : Packet) → length bytes ≡ row.length
+    → row.start + row.length ≤ 2 ^ 31 → row.nanos < 2 ^ 63 → StandsIn number row packet
+    → payload ≡ payload_in row bytes packet → HasPayload packet payload
+carried number row bytes payload (Segment s) size within soon stands pays =
+    let from = s.lo - row.start in
+    let upto = s.hi - row.start in
+    let count = length-take-le (upto - from) (drop from bytes)
+    (omega (arith, length-drop from bytes, size, stands.2, stands.3, stands.4)) in
+    record {
+      ordered = stands.3;
+      within = omega (arith, stands.4, within);
+      size = omega (arith, ap length pays, count, stands.2, stands.3);
+      timely = omega (arith, stands.1, soon);
+    }
+carried number row bytes payload _ size within soon stands pays = tt
+
 -- the number that a segment has
 numbered : (number : ℕ) (row : Record) (packet : Packet) → StandsIn number row packet
     → AreNumberedFrom number (packet ∷ [])
@@ -113,15 +139,20 @@ numbered number row _ stands = tt
 
 module _ {V : Type 0} (after : List Handed → V → Type 0) where
   -- the packet of the next record comes next
-  pub next_packet : (link next : ℕ) (seen : List Captured) (row : Record) (bytes : List ℕ) (packet : Packet)
+  pub next_packet : (link next : ℕ) (seen : List Captured) (row : Record) (bytes payload : List ℕ) (packet : Packet)
       (stage : PacketStage V) → (is : HasDecoded after link seen stage) → IsNext link seen row bytes
-      → next ≡ stage.count + 1 → StandsIn next row packet → IsNextPacket is.handed packet
-  next_packet link next seen row bytes packet stage is comes count stands =
+      → next ≡ stage.count + 1 → StandsIn next row packet → payload ≡ payload_in row bytes packet
+      → IsNextPacket is.handed packet payload
+  next_packet link next seen row bytes payload packet stage is comes count stands pays =
       let same = handed_count link 1 seen is.handed is.are in
       let here : next ≡ length is.handed + 1 = omega (arith, same, count, is.count) in
+      let before = payloads_rise 1 24 24 row.start row.start (rows_of seen) (packets_among is.handed) (omega arith)
+      (omega arith) comes.behind (all_stand link 1 seen is.handed is.are) in
       record {
         few = omega (arith, same, comes.few, comes.within);
         numbered = subst (λ n. AreNumberedFrom n (packet ∷ [])) here (numbered next row packet stands);
+        has = carried next row bytes payload packet comes.size comes.within comes.soon stands pays;
+        rise = payloads_push next 24 (2 ^ 31) row (packets_among is.handed) packet before comes.within stands;
       }
 
   -- a stage was handed one record more
@@ -154,8 +185,7 @@ module _ {V : Type 0} (after : List Handed → V → Type 0) where
       let few : length rows < 2 ^ 63 = omega (arith, read.few, read.high, short) in
       let records : Records = records_of alloc link rows cut few in
       let all = decided link 1 is.at.seen stage.handed capture stage.are is.at.captured in
-      let stand = along 1 24 0 walk.records.cursor.at (length capture) rows (packets_among stage.handed) (omega arith)
-      read.high read.placed read.timely all.stand in
+      let stand = along 1 rows (packets_among stage.handed) read.timely all.stand in
       record {
         handed = stage.handed;
         visited = stage.visited;
@@ -170,7 +200,8 @@ module _ {V : Type 0} (after : List Handed → V → Type 0) where
         order = record {
           few = omega (arith, stand.count, read.few, read.high, short);
           numbered = stand.numbered;
-          payloads = stand.payloads;
+          payloads = payloads_rise 1 24 0 walk.records.cursor.at (length capture) rows (packets_among stage.handed)
+              (omega arith) read.high read.placed all.stand;
           times = stand.times;
         };
       }

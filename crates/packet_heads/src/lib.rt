@@ -13,8 +13,8 @@
 //! - [`ethernet`], [`ipv4`] and [`tcp`] read the header fields that name endpoints, for a reader of a packet's front
 //!   alone.
 //! - Packet n is record n's, there are fewer than 2^32 of them, and times are below 2^63 nanoseconds.
-//! - Payloads lie in the capture in order and apart. For one packet the code proves only that it lies in its record
-//!   (`specs/code/Standing.antt`); the order of all follows from that.
+//! - Payloads lie in the capture in order and apart, as a visitor may rely on while packets come (`IsNextPacket`). For
+//!   one packet the code proves only that it lies in its record (`specs/code/Standing.antt`); the order of all follows.
 //! - [`MadePackets`] keeps packets: each as a mark, and a segment also as a row. Marks 0 to 10 name the eleven packets
 //!   that are passed over, higher marks the segments by index (`specs/code/Marks.antt`). [`Packets`] reads both as the
 //!   one list that contracts speak of, and a segment in place.

@@ -14,7 +14,7 @@ pub trait PacketVisitor {
     /// Takes the next packet, and its payload if it is a segment. Where memory runs out, nothing is known of the
     /// visitor.
     fn take(&mut self, alloc: Global, packet: &Packet, payload: &[u8]) -> Result<(), AllocError>
-        requires { (handed : List Handed) × after handed self.old × IsNextPacket handed packet.now }
-        ensures { (handed : List Handed) → after handed self.old
+        requires { (handed : List Handed) × after handed self.old × IsNextPacket handed packet.now payload.now }
+        ensures { (handed : List Handed) → after handed self.old → IsNextPacket handed packet.now payload.now
             → OnOk result (after (handed ++ (packet.now, payload.now) ∷ []) self.new) };
 }

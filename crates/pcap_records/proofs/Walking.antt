@@ -202,6 +202,7 @@ module _ {V : Type 0} (after : ℕ → List Captured → V → Type 0) where
       record {
         linked = is.passed.linked;
         few = omega (arith, start, is.passed.read.few, length-map is.seen (λ (one : Captured). one.0));
+        behind = RiseFrom-widen 24 cursor.at row.start (rows_of is.seen) is.passed.read.placed (omega (arith, start));
         within = omega (arith, start, size, count, short, found.0.1);
         size = omega (
           arith,

@@ -20,6 +20,6 @@ pub trait RecordVisitor {
         packet: &[u8],
     ) -> Result<(), AllocError>
         requires { (seen : List Captured) × after link seen self.old × IsNext link seen row.now packet.now }
-        ensures { (seen : List Captured) → after link seen self.old
+        ensures { (seen : List Captured) → after link seen self.old → IsNext link seen row.now packet.now
             → OnOk result (after link (seen ++ (row.now, packet.now) ∷ []) self.new) };
 }

@@ -1,6 +1,7 @@
 -- Segments with their openings, as the definition folds them, beside what the past shows.
 use Rattle.packet_heads.specs.declared.packets.Packet.TheVariants.{Refused, Skipped}
 use Rattle.std.{specs.List.AllZip, specs.Prelude.fold}
+use Rattle.tcp_streams.proofs.Words.{◌∙◌}
 use Rattle.tcp_streams.proofs.Words.{Carried, Option, Packet, Segment, [], filter, is_of, pair_of, segment_in}
 use Rattle.tcp_streams.proofs.Words.{Connection, Membership, arith, filter_map, if◌then◌else◌, is_request, is_same_pair}
 use Rattle.tcp_streams.proofs.Words.{List, None, Some, ap, map, not, refl, ◌&&◌, ◌∷◌, ◌≡◌}
@@ -66,6 +67,16 @@ first_strays-are (s ∷ past) = grind (arith, opening-are s past, pair-tests s, 
 
 stray-is : (all : List Segment) (s : Segment) → stray_of all s ≡ past_words.stray_of all s
 stray-is all s = rw (ap (λ test. filter test all) (pair-tests s))
+
+-- the openings are its past's
+pub opened-are : (packets : List Packet) → openings (belongings packets)
+    ≡ past_words.openings (past_words.past_of packets)
+opened-are packets = ap openings (belongings-are packets) ∙ openings-are (past_words.past_of packets)
+
+-- the segments that belong to an opening are its past's members
+pub belonging-are : (packets : List Packet) (o : Segment)
+    → members o (belongings packets) ≡ past_words.members o (past_words.past_of packets)
+belonging-are packets o = ap (members o) (belongings-are packets) ∙ members-are o (past_words.past_of packets)
 
 -- the strays of a capture are those that its past shows
 pub strays-of-past : (packets : List Packet) → strays_of packets ≡ past_words.strays_of (past_words.past_of packets)

@@ -62,7 +62,7 @@ sum-plus f g (x ∷ xs) =
     omega (arith, sum_by-cons (λ x. f x + g x) x xs, sum_by-cons f x xs, sum_by-cons g x xs, sum-plus f g xs)
 
 -- the payloads of the past
-past-sum : (from size : ℕ) (past : List Segment) (packets : List Packet) → PayloadsRise from size packets
+pub past-sum : (from size : ℕ) (past : List Segment) (packets : List Packet) → PayloadsRise from size packets
     → from + payload_sum (past_after past packets) ≤ size + payload_sum past
 past-sum from size past [] h = omega (arith, h)
 past-sum from size past (Carried s ∷ rest) h =
@@ -116,7 +116,7 @@ segments-push : (packets : List Packet) (xs : List ℕ) (m : ℕ) → segments_o
 segments-push packets [] m = append-nil (option_to_list (segment_of packets m))
 segments-push packets (x ∷ xs) m = grind (arith, nat_tests, segments-push packets xs m, append_assoc)
 
-members-named : (packets : List Packet) (o : Segment) (past : List Segment) → Known packets past
+pub members-named : (packets : List Packet) (o : Segment) (past : List Segment) → Known packets past
     → segments_of packets (recs (members o past)) ≡ members o past
 members-named packets o [] k = refl
 members-named packets o (s ∷ past) k =

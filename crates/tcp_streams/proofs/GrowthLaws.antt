@@ -9,7 +9,7 @@ use Rattle.tcp_streams.proofs.Growth.{run-grows}
 use Rattle.tcp_streams.proofs.Lists.{by_Bool}
 use Rattle.std.proofs.Common.{subst}
 
-earlier-none : (p : Option Source) → earlier_of p None ≡ p
+pub earlier-none : (p : Option Source) → earlier_of p None ≡ p
 earlier-none None = refl
 earlier-none (Some x) = refl
 
@@ -28,7 +28,7 @@ earlier-or rec nanos (Some x) None None h k = refl
 earlier-or rec nanos (Some x) None (Some z) h k = rw (le-ltb z.rec x.rec (omega (arith, h, k.0))) refl
 
 module _ (initial_number : ℕ) where
-  brings-of : (s : Segment) (o : ℕ) → IsOf s.rec s.nanos (brings initial_number s o)
+  pub brings-of : (s : Segment) (o : ℕ) → IsOf s.rec s.nanos (brings initial_number s o)
   brings-of s o =
       by_Bool (nat_lt (distance initial_number s o) (payload_length s)) (λ e. rw e (refl, refl)) (λ e. rw e tt)
 
@@ -37,7 +37,7 @@ module _ (initial_number : ℕ) where
   brings-before rec t o lt =
       by_Bool (nat_lt (distance initial_number t o) (payload_length t)) (λ e. rw e lt) (λ e. rw e tt)
 
-  sources-before : (segments : List Segment) (s : Segment) → ComesAfter segments s
+  pub sources-before : (segments : List Segment) (s : Segment) → ComesAfter segments s
       → AreBefore s.rec (source initial_number segments)
   sources-before [] s h o = tt
   sources-before (t ∷ segments) s h o =
@@ -45,7 +45,7 @@ module _ (initial_number : ℕ) where
       (brings-before s.rec t o (All-head (λ (x : Segment). x.rec < s.rec) t segments h))
       (sources-before segments s (All-tail (λ (x : Segment). x.rec < s.rec) t segments h) o)
 
-  grows : (segments : List Segment) (s : Segment) (o : ℕ) → ComesAfter segments s
+  pub grows : (segments : List Segment) (s : Segment) (o : ℕ) → ComesAfter segments s
       → source initial_number (segments ++ s ∷ []) o
       ≡ grown (source initial_number segments) (brings initial_number s) o
   grows [] s o h = earlier-none (brings initial_number s o)
@@ -57,7 +57,7 @@ module _ (initial_number : ℕ) where
       (brings-before s.rec t o (All-head (λ (x : Segment). x.rec < s.rec) t segments h)) (brings-of s o)
 
   -- the sources of one segment more, as a function
-  all-grow : (segments : List Segment) (s : Segment) → ComesAfter segments s
+  pub all-grow : (segments : List Segment) (s : Segment) → ComesAfter segments s
       → source initial_number (segments ++ s ∷ [])
       ≡ grown (source initial_number segments) (brings initial_number s)
   all-grow segments s h = (λ i. λ o. grows segments s o h i)

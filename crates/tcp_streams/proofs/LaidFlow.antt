@@ -17,7 +17,7 @@ use Rattle.tcp_streams.proofs.PieceLemmas.{AreRising}
 use Rattle.std.proofs.Common.{subst}
 
 -- what is laid out of these sources so far, beside the stage that takes them
-pub record IsLaid (capture : List ℕ) (sources : ℕ → Option Source) (side : SideFlow) (bytes : List ℕ)
+pub record IsLaid {K : Type 0} (capture : List ℕ) (sources : ℕ → Option Source) (side : SideFlow K) (bytes : List ℕ)
     (arrivals : List Arrival) : Type 0 where
   pub stage : IsSideFlow sources side
   pub reaches : length bytes ≡ side.end
@@ -44,8 +44,9 @@ no-growth low high [] e h = e
 no-growth low high (y ∷ ys) e h = absurd (omega (arith, h))
 
 -- an interval more
-module _ (capture : List ℕ) (F : ℕ → Option Source) (side side' : SideFlow) (bytes : List ℕ) (arrivals : List Arrival)
-    (x : Interval) (run : List Interval) (h : IsLaid capture F side bytes arrivals) (before : AreBefore x.rec F)
+module _ {K : Type 0} (capture : List ℕ) (F : ℕ → Option Source) (side side' : SideFlow K) (bytes : List ℕ)
+    (arrivals : List Arrival) (x : Interval) (run : List Interval) (h : IsLaid capture F side bytes arrivals)
+    (before : AreBefore x.rec F)
     (captured : AreCaptured (length capture) (with_interval F x)) (more : IsSideFlow (with_interval F x) side')
     (growth : IsGrowth (with_interval F x) side.end side'.end run) where
   run-held : All (IsHeld (length capture)) run
@@ -150,7 +151,7 @@ module _ (F G : ℕ → Option Source) (same : IsSame F G) where
       }
 
 -- what is laid out of all pieces, with the gap that the stage tells, is their flow
-pub laid-flow : (capture : List ℕ) (F : ℕ → Option Source) (side : SideFlow) (bytes : List ℕ)
+pub laid-flow : {K : Type 0} (capture : List ℕ) (F : ℕ → Option Source) (side : SideFlow K) (bytes : List ℕ)
     (arrivals : List Arrival) (gap : Option ℕ) → IsLaid capture F side bytes arrivals → IsGap F side.end gap
     → IsFlow capture F bytes arrivals gap
 laid-flow capture F side bytes arrivals gap h g =

@@ -22,6 +22,7 @@ pub record IsPieceOf (s : Segment) (x : Interval) : Type 0 where
   pub first : s.lo ≤ x.index
   pub within : x.index + (x.upto - x.from) ≤ s.hi
   pub rec_is : x.rec ≡ s.rec
+  pub nanos_is : x.nanos ≡ s.nanos
 
 -- which byte of a payload that begins at st has the offset o
 distance-past : (st o : ℕ) → st < 2 ^ 32 → o < 2 ^ 31 → st ≤ o → (o + (2 ^ 32 - st)) % 2 ^ 32 ≡ o - st
@@ -30,7 +31,7 @@ distance-past st o a b c = omega arith
 distance-before : (st o : ℕ) → st < 2 ^ 32 → o < st → (o + (2 ^ 32 - st)) % 2 ^ 32 ≡ o + (2 ^ 32 - st)
 distance-before st o a b = omega arith
 
-stretch-is : (s : Segment) (skipped from upto : ℕ) → s.hi < 2 ^ 31 → upto ≤ end_of_offsets
+stretch-is : (s : Segment) (skipped from upto : ℕ) → s.hi ≤ 2 ^ 31 → upto ≤ end_of_offsets
     → (from < upto → s.lo + skipped + (upto - from) ≤ s.hi) → IfSome (stretch s skipped from upto) (IsPieceOf s)
 stretch-is s skipped from upto short counts within =
     by_lt from upto
@@ -39,6 +40,7 @@ stretch-is s skipped from upto short counts within =
       first = omega arith;
       within = within lt;
       rec_is = refl;
+      nanos_is = refl;
     }))
     (λ e _. rw e tt)
 
@@ -48,13 +50,13 @@ byte_at s k =
     if nat_lt k (payload_length s) then Some (record { rec = s.rec; nanos = s.nanos; index = s.lo + k }) else None
 
 -- where a segment's payload begins at st, its piece brings what the segment brings
-same-at : (st size o : ℕ) (s : Segment) → StandsIn size s → size < 2 ^ 31 → st < 2 ^ 32 → o < 2 ^ 31
+same-at : (st size o : ℕ) (s : Segment) → StandsIn size s → size ≤ 2 ^ 31 → st < 2 ^ 32 → o < 2 ^ 31
     → byte_at s ((o + (2 ^ 32 - st)) % 2 ^ 32)
     ≡ at (option_to_list (if nat_lt st end_of_offsets then stretch s 0 st (min (st + payload_length s) end_of_offsets)
     else stretch s (modulus - st) 0 (st + payload_length s - modulus))) o
 same-at st size o s stands small low lt = grind (arith, nat_tests, distance-past st o low lt, distance-before st o low)
 
-module _ (initial_number size : ℕ) (small : size < 2 ^ 31) (s : Segment) (stands : StandsIn size s) where
+module _ (initial_number size : ℕ) (small : size ≤ 2 ^ 31) (s : Segment) (stands : StandsIn size s) where
   pub piece-is : IfSome (piece initial_number s) (IsPieceOf s)
   piece-is = grind (arith, nat_tests, by_lt, stretch-is)
 
@@ -204,6 +206,7 @@ module _ (size : ℕ) (small : size < 2 ^ 31) (of : StartedSide) (rise : Payload
       record { intervals = All-nil IsInterval; fit = omega arith; rise = tt; cited = λ o. tt; same = λ o lt. refl }
   pieces-are low (m ∷ rest) h =
       let later = pieces-are m rest h.2 in
+      let most : size ≤ 2 ^ 31 = omega arith in
       let le : low ≤ m = omega (arith, h.0) in
       by_option (segment_of of.packets.now m)
       (λ e. rw e (weaker of.initial_number size small m low _ _ le later))
@@ -221,5 +224,5 @@ module _ (size : ℕ) (small : size < 2 ^ 31) (of : StartedSide) (rise : Payload
       in
       rw e (by_Bool (is_sent_by of.connection.now of.side s)
       (λ t. rw t (one_more of.initial_number size small low s _ sound _ (rw number later) (piece of.initial_number s)
-      (piece-is of.initial_number size small s stands) (piece-same of.initial_number size small s stands)))
+      (piece-is of.initial_number size most s stands) (piece-same of.initial_number size most s stands)))
       (λ t. rw t (weaker of.initial_number size small m low _ _ le later))))

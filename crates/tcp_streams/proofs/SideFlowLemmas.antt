@@ -5,15 +5,14 @@ use Rattle.tcp_streams.proofs.Words.{none-some, false≢true, false, lt-ltb, le-
 use Rattle.tcp_streams.proofs.Words.{at}
 use Rattle.tcp_streams.proofs.Words.{source_in, Interval}
 use Rattle.tcp_streams.specs.{Flow.IsLongestRun, code.Interval.part_of}
-use Rattle.tcp_streams.specs.code.SideFlow.{AreKept, IsHeld, IsHeldAt, kept_at}
+use Rattle.tcp_streams.specs.code.SideFlow.{AreKept, IsHeld, IsHeldAt}
 use Rattle.tcp_streams.specs.code.SideFlow.{with_interval}
 use Rattle.tcp_streams.proofs.{Growth.or-left, IntervalLemmas.at-in, IntervalLemmas.at-past}
 use Rattle.tcp_streams.proofs.Lists.{by_lt, by_option}
-use Rattle.std.specs.{BTreeMap.BTreeMap, BTreeMap.is_at, Map.lookup}
 use Rattle.std.specs.{Cmp.nat_cmp_is, Ordering.is_eq, Ordering.is_gt, Ordering.is_lt}
 use Rattle.std.specs.{Ordering.nat_cmp, declared.cmp.Ordering.TheVariants.Equal}
 use Rattle.std.specs.declared.cmp.Ordering.TheVariants.{Greater, Less}
-use Rattle.std.proofs.{Common.subst, lemmas.Bool.cases_eq}
+use Rattle.std.proofs.{Common.max, Common.subst, lemmas.Bool.cases_eq}
 
 pub or-none : (p : Option Source) → option_or p None ≡ p
 or-none None = refl
@@ -23,18 +22,18 @@ pub at-before : (x : Interval) (o : ℕ) → o < x.from → at (x ∷ []) o ≡ 
 at-before x o lt = grind (arith, nat_tests)
 
 -- one interval is kept under a first offset
-same-kept : (m : BTreeMap ℕ Interval) (k l : ℕ) (x y : Interval) → kept_at m k ≡ Some x → kept_at m l ≡ Some y → k ≡ l
+same-kept : (m : ℕ → Option Interval) (k l : ℕ) (x y : Interval) → m k ≡ Some x → m l ≡ Some y → k ≡ l
     → x ≡ y
 same-kept m k l x y h j e = let moved = rw e at h in let both : Some x ≡ Some y = sym moved ∙ j in cc
 
-pub kept-same : (low : ℕ) (F G : ℕ → Option Source) (m : BTreeMap ℕ Interval) → ((o : ℕ) → F o ≡ G o)
+pub kept-same : (low : ℕ) (F G : ℕ → Option Source) (m : ℕ → Option Interval) → ((o : ℕ) → F o ≡ G o)
     → AreKept low F m → AreKept low G m
 kept-same low F G m same h = subst (λ (H : ℕ → Option Source). AreKept low H m) (λ i. λ o. same o i) h
 
-pub kept-unchanged : (low : ℕ) (F : ℕ → Option Source) (m n : BTreeMap ℕ Interval) → n.entries ≡ m.entries
+pub kept-unchanged : (low : ℕ) (F : ℕ → Option Source) (m n : ℕ → Option Interval) → ((k : ℕ) → n k ≡ m k)
     → AreKept low F m → AreKept low F n
-kept-unchanged low F m n e h =
-    let same : (k : ℕ) → kept_at n k ≡ kept_at m k = (λ k. ap (λ es. lookup (is_at (nat_cmp k)) es) e) in record {
+kept-unchanged low F m n same h =
+    record {
       placed = λ k x at-k. h.placed k x (sym (same k) ∙ at-k);
       apart = λ k l x y at-k at-l lt. h.apart k l x y (sym (same k) ∙ at-k) (sym (same l) ∙ at-l) lt;
       brought = λ o k x held.
@@ -45,15 +44,15 @@ kept-unchanged low F m n e h =
     }
 
 -- what nothing holds is brought by none
-pub not-held : (low : ℕ) (F : ℕ → Option Source) (m : BTreeMap ℕ Interval) (o : ℕ) → AreKept low F m → low ≤ o
+pub not-held : (low : ℕ) (F : ℕ → Option Source) (m : ℕ → Option Interval) (o : ℕ) → AreKept low F m → low ≤ o
     → o < end_of_offsets → (IsHeld m o → ⊥) → F o ≡ None
 not-held low F m o h le counts free =
     by_option (F o) (λ e. e) (λ s e. absurd (free (h.complete o le counts (rw e refl))))
 
 -- where nothing that begins at or before an offset reaches past it, and nothing begins up to another, nothing is held
-pub free-between : (m : BTreeMap ℕ Interval) (low high : ℕ)
-    → ((k : ℕ) (x : Interval) → kept_at m k ≡ Some x → k ≤ low → x.upto ≤ low)
-    → ((k : ℕ) (x : Interval) → kept_at m k ≡ Some x → low < k → k < high → ⊥)
+pub free-between : (m : ℕ → Option Interval) (low high : ℕ)
+    → ((k : ℕ) (x : Interval) → m k ≡ Some x → k ≤ low → x.upto ≤ low)
+    → ((k : ℕ) (x : Interval) → m k ≡ Some x → low < k → k < high → ⊥)
     → (o : ℕ) → low ≤ o → o < high → IsHeld m o → ⊥
 free-between m low high before after o le lt (k, x, held) =
     by_lt low k
@@ -61,8 +60,8 @@ free-between m low high before after o le lt (k, x, held) =
     (λ _ back. absurd (omega (arith, before k x held.is_kept back, held.upto, le)))
 
 -- where the last interval that begins at or before an offset ends, all others have ended
-pub last-ends : (low : ℕ) (F : ℕ → Option Source) (m : BTreeMap ℕ Interval) (o k l : ℕ) (x y : Interval)
-    → AreKept low F m → kept_at m k ≡ Some x → kept_at m l ≡ Some y → k ≤ l → l ≤ o → y.upto ≤ o → x.upto ≤ o
+pub last-ends : (low : ℕ) (F : ℕ → Option Source) (m : ℕ → Option Interval) (o k l : ℕ) (x y : Interval)
+    → AreKept low F m → m k ≡ Some x → m l ≡ Some y → k ≤ l → l ≤ o → y.upto ≤ o → x.upto ≤ o
 last-ends low F m o k l x y h at-k at-l le within ends =
     elim (cases_eq k l) [
       | inl same ↦ rw (same-kept m k l x y at-k at-l same) ends
@@ -107,8 +106,20 @@ module _ (F : ℕ → Option Source) (x : Interval) where
   above : (n o : ℕ) → n ≤ o → so_far F x n o ≡ F o
   above n o le = rw (le-ltb o n le) (or-none (F o))
 
+  -- where the interval begins, or the run ends if it does so later, nothing is added yet
+  pub so_far-start : (e low : ℕ) → ((o : ℕ) → o < e → IsSome (F o)) → low ≡ max x.from e → (o : ℕ)
+      → F o ≡ so_far F x low o
+  so_far-start e low covered is o =
+      by_lt o low
+      (λ _ lt. by_lt o e
+      (λ _ inside. sym (below low o lt ∙ or-left (F o) (at (x ∷ []) o) (covered o inside)))
+      (λ _ past.
+      let before : o < x.from = omega (arith, is, lt, past) in
+      sym (below low o lt ∙ ap (option_or (F o)) (at-before x o before) ∙ or-none (F o))))
+      (λ _ ge. sym (above low o ge))
+
   -- along an interval that is kept nothing is added
-  pub so_far-held : (low e k : ℕ) (m : BTreeMap ℕ Interval) (y : Interval) → AreKept e (so_far F x low) m
+  pub so_far-held : (low e k : ℕ) (m : ℕ → Option Interval) (y : Interval) → AreKept e (so_far F x low) m
       → IsHeldAt m low k y → (o : ℕ) → so_far F x low o ≡ so_far F x y.upto o
   so_far-held low e k m y h held o =
       by_lt o low
@@ -121,17 +132,17 @@ module _ (F : ℕ → Option Source) (x : Interval) where
       above low o ge ∙ sym (or-left (F o) (at (x ∷ []) o) (rw there refl)) ∙ sym (below y.upto o lt))
       (λ _ past. above low o ge ∙ sym (above y.upto o past)))
 
-  pub step-held : (e low upto : ℕ) (m : BTreeMap ℕ Interval) → AreKept e (so_far F x low) m
+  pub step-held : (e low upto : ℕ) (m : ℕ → Option Interval) → AreKept e (so_far F x low) m
       → ((k : ℕ) × (y : Interval) × IsHeldAt m low k y × (y.upto ≡ upto)) → AreKept e (so_far F x upto) m
   step-held e low upto m h (k, y, held, ends) =
       subst (λ (n : ℕ). AreKept e (so_far F x n) m) ends
       (kept-same e (so_far F x low) (so_far F x y.upto) m (so_far-held low e k m y h held) h)
 
   -- a part of the interval where nothing is held
-  module _ (m n : BTreeMap ℕ Interval) (e low high : ℕ) (h : AreKept e (so_far F x low) m) (is : IsInterval x)
+  module _ (m n : ℕ → Option Interval) (e low high : ℕ) (h : AreKept e (so_far F x low) m) (is : IsInterval x)
       (behind : e ≤ low) (begins : x.from ≤ low) (order : low < high) (within : high ≤ x.upto)
-      (free : (o : ℕ) → low ≤ o → o < high → IsHeld m o → ⊥) (here : kept_at n low ≡ Some (part_of x low high))
-      (other : (q : ℕ) → (q ≡ low → ⊥) → kept_at n q ≡ kept_at m q) where
+      (free : (o : ℕ) → low ≤ o → o < high → IsHeld m o → ⊥) (here : n low ≡ Some (part_of x low high))
+      (other : (q : ℕ) → (q ≡ low → ⊥) → n q ≡ m q) where
     new-brought : (o : ℕ) → low ≤ o → o < high → so_far F x high o ≡ Some (source_in (part_of x low high) o)
     new-brought o le lt =
         let none : F o ≡ None =
@@ -148,8 +159,8 @@ module _ (F : ℕ → Option Source) (x : Interval) where
     old-brought o (inr ge) = above high o ge ∙ sym (above low o (omega (arith, ge, order)))
 
     -- what is kept then is the part, or was kept
-    which : (k : ℕ) (y : Interval) → kept_at n k ≡ Some y
-        → ((k ≡ low) × (y ≡ part_of x low high)) ⊎ ((k ≡ low → ⊥) × (kept_at m k ≡ Some y))
+    which : (k : ℕ) (y : Interval) → n k ≡ Some y
+        → ((k ≡ low) × (y ≡ part_of x low high)) ⊎ ((k ≡ low → ⊥) × (m k ≡ Some y))
     which k y at-k =
         elim (cases_eq k low) [
           | inl same ↦ inl (same, same-kept n k low y (part_of x low high) at-k here same)
@@ -250,10 +261,10 @@ module _ (F : ℕ → Option Source) (x : Interval) where
     }
 
 -- what begins where the run ends leaves
-module _ (F : ℕ → Option Source) (m n : BTreeMap ℕ Interval) (e : ℕ) (y : Interval) (h : AreKept e F m)
-    (first : kept_at m e ≡ Some y) (gone : kept_at n e ≡ None)
-    (other : (q : ℕ) → (q ≡ e → ⊥) → kept_at n q ≡ kept_at m q) where
-  was : (k : ℕ) (z : Interval) → kept_at n k ≡ Some z → (k ≡ e → ⊥) × (kept_at m k ≡ Some z)
+module _ (F : ℕ → Option Source) (m n : ℕ → Option Interval) (e : ℕ) (y : Interval) (h : AreKept e F m)
+    (first : m e ≡ Some y) (gone : n e ≡ None)
+    (other : (q : ℕ) → (q ≡ e → ⊥) → n q ≡ m q) where
+  was : (k : ℕ) (z : Interval) → n k ≡ Some z → (k ≡ e → ⊥) × (m k ≡ Some z)
   was k z at-k =
       elim (cases_eq k e) [
         | inl same ↦ absurd (none-some z (sym gone ∙ (rw same at at-k)))
@@ -286,7 +297,7 @@ module _ (F : ℕ → Option Source) (m n : BTreeMap ℕ Interval) (e : ℕ) (y 
   next-brought o le lt = h.brought o e y (record { is_kept = first; from = le; upto = lt })
 
 -- nothing is kept that begins where the run ends: so it is the longest
-pub longest-run : (F : ℕ → Option Source) (m : BTreeMap ℕ Interval) (e : ℕ) → AreKept e F m → kept_at m e ≡ None
+pub longest-run : (F : ℕ → Option Source) (m : ℕ → Option Interval) (e : ℕ) → AreKept e F m → m e ≡ None
     → e ≤ end_of_offsets → ((o : ℕ) → o < e → IsSome (F o)) → IsLongestRun F e
 longest-run F m e h none within covered = record {
   within = within;

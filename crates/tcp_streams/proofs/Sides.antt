@@ -1,5 +1,6 @@
 -- On the pieces of a side: what they bring, laid out as they come, makes the side's flow.
 use Rattle.tcp_streams.proofs.Words.{◌≡◌, ℕ, ◌<◌, List, [], ◌∷◌, Some, sym, ◌∙◌, arith, ◌+◌, ◌-◌, ◌^◌, ◌++◌, length, ap}
+use Rattle.tcp_streams.proofs.Words.{◌≤◌}
 use Rattle.tcp_streams.proofs.Words.{take, drop, IfSome, IsTrue, filter_map, filter_map-append, take-append-drop}
 use Rattle.tcp_streams.proofs.Words.{append_assoc, IfSome_then, PayloadsRise, bytes_of, is_sent_by, IsGap}
 use Rattle.tcp_streams.proofs.Words.{segment_of, source, Source, end_of_offsets, IsAssembled, AreCaptured}
@@ -23,8 +24,9 @@ member-inside size of m small rise =
     (λ e. rw e tt)
     (λ s e.
     let stands = stands-at size of.packets.now (m - 1) s rise (found-at of.packets.now m s e) in
+    let most : size ≤ 2 ^ 31 = omega arith in
     rw e (by_Bool (is_sent_by of.connection.now of.side s)
-    (λ sent. rw sent (IfSome_then (piece of.initial_number s) (piece-is of.initial_number size small s stands)
+    (λ sent. rw sent (IfSome_then (piece of.initial_number s) (piece-is of.initial_number size most s stands)
     (λ x is. record { interval = is.interval; captured = omega (arith, is.within, stands.within) })))
     (λ other. rw other tt)))
 
@@ -45,7 +47,8 @@ module _ (capture : List ℕ) (of : StartedSide) (is : IsOfCapture capture of) w
       (λ x cited. cited.1))
 
   -- what is laid out of all pieces is the side's flow
-  pub assembled : (side : SideFlow) (f : Flow) → IsLaid capture (at pieces) side (bytes_of f) f.arrivals.items
+  pub assembled : {K : Type 0} (side : SideFlow K) (f : Flow)
+      → IsLaid capture (at pieces) side (bytes_of f) f.arrivals.items
       → IsGap (at pieces) side.end f.gap → IsTrue f.started → IsAssembled capture of f
   assembled side f laid gap started =
       let same = λ (o : ℕ) (lt : o < end_of_offsets). sym (side-pieces.same o lt) in
@@ -90,7 +93,7 @@ module _ (capture : List ℕ) (of : StartedSide) (is : IsOfCapture capture of) w
           (front-captured (length capture) (front ++ x ∷ []) rest (rw append_assoc whole))
 
       -- what the stage says of any sources it says of those of the pieces before
-      module _ (side side' : SideFlow) (bytes : List ℕ) (arrivals : List Arrival) (run : List Interval)
+      module _ {K : Type 0} (side side' : SideFlow K) (bytes : List ℕ) (arrivals : List Arrival) (run : List Interval)
           (laid : IsLaid capture (at front) side bytes arrivals)
           (stands : (F : ℕ → Option Source) → IsSideFlow F side → IsSideFlow (with_interval F x) side')
           (growth : (F : ℕ → Option Source) → IsSideFlow F side

@@ -1,10 +1,13 @@
 -- The flow of a side (RFC 9293, 3.4): the longest run of its stream from offset 0 that the capture shows,
 -- when its bytes were there, and whether bytes are missing before later ones.
-use Rattle.std.specs.Prelude.{◌≡◌, ℕ, ◌<◌, ◌≤◌, nat_lt, List, length, slice_get, find, Option, None, Some, IsSome}
-use Rattle.std.specs.Prelude.{IsSomeAnd}
+use Rattle.std.specs.Prelude.{◌≡◌, ℕ, ◌<◌, ◌≤◌, false, nat_lt, List, [], length, slice_get, find, Option, None, Some}
+use Rattle.std.specs.Prelude.{IsSome, IsSomeAnd, IsTrue}
+use Rattle.packet_heads.specs.declared.packets.Segment.{Segment}
 use Rattle.tcp_streams.specs.declared.flows.Arrival.{Arrival}
+use Rattle.tcp_streams.specs.declared.flows.Flow.{Flow}
 use Rattle.tcp_streams.specs.Arrivals.{Rises}
-use Rattle.tcp_streams.specs.Sequence.{Source, arrival, end_of_offsets}
+use Rattle.tcp_streams.specs.Bytes.{bytes_of}
+use Rattle.tcp_streams.specs.Sequence.{Source, arrival, end_of_offsets, source}
 
 -- the longest run from 0: every offset below n has a source, and n itself has none
 pub record IsLongestRun (sources : ℕ → Option Source) (n : ℕ) : Type 0 where
@@ -45,3 +48,10 @@ pub record IsFlow
   pub rises : Rises 0 0 arrivals (length bytes)
   pub arrivals_are : AreArrivals sources arrivals (length bytes)
   pub gap_is : IsGap sources (length bytes) gap
+
+-- the flow of segments, from the initial sequence number on; without such a number it is empty and not started
+abbrev pub IsFlowFrom : Option ℕ → List ℕ → List Segment → Flow → Type 0
+IsFlowFrom (Some isn) capture segments flow =
+    IsTrue flow.started × IsFlow capture (source isn segments) (bytes_of flow) flow.arrivals.items flow.gap
+IsFlowFrom None capture segments flow =
+    (flow.started ≡ false) × (flow.pieces.items ≡ []) × (flow.arrivals.items ≡ []) × (flow.gap ≡ None)

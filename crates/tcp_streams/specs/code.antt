@@ -1,9 +1,16 @@
 pub mod Assembled
+pub mod Content
+pub mod Flows
+pub mod Grown
 pub mod Interval
+pub mod Opened
 pub mod Pairs
 pub mod Past
+pub mod SentFlows
+pub mod Side
 pub mod SideFlow
 pub mod Standings
 pub mod Table
 pub mod Orderly
+pub mod Taken
 pub mod Walk

@@ -8,9 +8,10 @@ ghost use Rattle.tcp_streams.specs.Members.{initial_of, side_segments};
 ghost use Rattle.tcp_streams.specs.Sequence.{source};
 ghost use Rattle.tcp_streams.specs.code.Assembled.{IsAssembled, IsOfCapture};
 ghost use Rattle.tcp_streams.specs.code.Interval.{IsInside, arrival_to, bytes_in};
+ghost use Rattle.tcp_streams.specs.code.SideFlow.{intervals};
 
 use crate::flows::{Arrival, Flow};
-use crate::interval::Interval;
+use crate::interval::{Interval, Piece};
 use crate::members::Connection;
 use crate::pieces::piece_of_member;
 use crate::side_flow::SideFlow;
@@ -91,7 +92,7 @@ fn flow_from<'a>(
     let mut run = Vec::new(alloc);
     for member in &of.connection.members {
         if let Some(piece) = piece_of_member(of, *member) {
-            side.take(&piece, &mut run)?;
+            side.take(alloc, &piece, &mut run)?;
             if !run.is_empty() {
                 push_run(capture, &run, &mut pieces)?;
                 arrivals.push(arrival_to(&piece, side.end))?;
@@ -110,14 +111,15 @@ fn flow_from<'a>(
 /// Appends the bytes of intervals to the pieces of the capture that were found.
 fn push_run<'a>(
     capture: &Capture<'a>,
-    run: &[Interval],
+    run: &[Piece<()>],
     pieces: &mut Vec<&'a [u8]>,
 ) -> Result<(), AllocError>
-    requires { All (IsInside (length capture.now)) run.now }
-    ensures { OnOk result (joined pieces.new.items ≡ joined pieces.old.items ++ bytes_in capture.now run.now) }
+    requires { All (IsInside (length capture.now)) (intervals run.now) }
+    ensures { OnOk result (joined pieces.new.items
+        ≡ joined pieces.old.items ++ bytes_in capture.now (intervals run.now)) }
 {
-    for x in run {
-        x.push_bytes(capture, pieces)?;
+    for piece in run {
+        piece.interval.push_bytes(capture, pieces)?;
     }
     Ok(())
 }

@@ -54,3 +54,10 @@ impl Interval {
         }
     }
 }
+
+/// An interval that is kept, with what is kept of its bytes.
+#[derive(Drop)]
+pub(crate) struct Piece<K> {
+    pub interval: Interval,
+    pub content: K,
+}

@@ -1,6 +1,6 @@
 //! Laws of the definitions. These calls do nothing; their contracts are what they are for.
 
-ghost use Rattle.tcp_streams.specs.laws.Flows.{ByteHasOffset, FlowIsUnique, FlowsFit, SidesFit};
+ghost use Rattle.tcp_streams.specs.laws.Flows.{ByteHasOffset, FlowIsUnique, FlowsAreThoseSent, FlowsFit, SidesFit};
 ghost use Rattle.tcp_streams.specs.laws.Growth.{FlowGrows, NewBytesArrive, SourceGrows, SourceStays};
 
 /// A side's sources have one flow: no other bytes, arrivals or gap meet the definition.
@@ -20,6 +20,16 @@ pub fn sides_fit()
 /// [`assemble`]: crate::assemble
 pub fn flows_fit()
     ensures { FlowsFit }
+{}
+
+/// The flow of a side of an opening's connection, which [`assemble`] gives, is the flow of the segments that belong to
+/// the opening as [`ConnectionFlows`] takes them, one by one, and the other way round: so what is promised of the one
+/// holds of what is handed on.
+///
+/// [`assemble`]: crate::assemble
+/// [`ConnectionFlows`]: crate::ConnectionFlows
+pub fn flows_are_those_sent()
+    ensures { FlowsAreThoseSent }
 {}
 
 /// Payload byte k of a segment has the offset that RFC 9293, 3.4 gives it.

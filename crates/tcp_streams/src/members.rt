@@ -1,5 +1,7 @@
 ghost use Rattle.std.specs.Prelude.{◌≡◌, ◌<◌, IfOk, OnOk};
+ghost use Rattle.tcp_streams.specs.code.Past.{answers};
 
+use crate::connection_visitor::ConnectionVisitor;
 use audit_terms::Side;
 use packet_heads::{Endpoint, Segment};
 use std::alloc::{AllocError, Global};
@@ -20,35 +22,43 @@ pub struct Connection {
     pub members: Vec<u32>,
 }
 
+/// Is it a server's SYN with ACK (RFC 9293, 3.5), to this client?
+pub(crate) fn is_answer(client: &Endpoint, segment: &Segment) -> bool
+    ensures { result ≡ answers client.now segment.now }
+{
+    segment.from != *client && segment.syn && segment.ack
+}
+
 /// How many members a connection has room for at first: the least block of memory holds as many.
 const FIRST_MEMBERS: usize = 6;
 
 impl Connection {
     ghost use Rattle.tcp_streams.specs.Members.{initial_of};
-    ghost use Rattle.tcp_streams.specs.code.Past.{membership, is_again};
-    ghost use Rattle.tcp_streams.specs.code.Table.{opened_by, joined};
+    ghost use Rattle.std.specs.Prelude.{◌∷◌, []};
+    ghost use Rattle.tcp_streams.specs.code.Past.{connection_with, membership};
+    ghost use Rattle.tcp_streams.specs.code.Table.{joined};
 
-    /// The connection that a SYN opens.
-    pub(crate) fn opened_by(alloc: Global, segment: &Segment) -> Result<Connection, AllocError>
-        ensures { IfOk result (λ c. membership c ≡ opened_by segment.now) }
+    /// The connection that a SYN opens, without any segment.
+    fn of(alloc: Global, opening: &Segment) -> Result<Connection, AllocError>
+        ensures { IfOk result (λ c. membership c ≡ connection_with opening.now []) }
     {
-        let mut members = Vec::with_capacity(alloc, FIRST_MEMBERS)?;
-        members.push(segment.rec)?;
         Ok(Connection {
-            client: segment.from,
-            server: segment.to,
-            rec: segment.rec,
-            client_isn: segment.seq,
+            client: opening.from,
+            server: opening.to,
+            rec: opening.rec,
+            client_isn: opening.seq,
             server_isn: None,
-            members,
+            members: Vec::with_capacity(alloc, FIRST_MEMBERS)?,
         })
     }
 
-    /// Does the segment say again what the opening said?
-    pub(crate) fn is_reopened_by(&self, segment: &Segment) -> bool
-        ensures { result ≡ is_again segment.now self.now.client self.now.client_isn }
+    /// The connection that a SYN opens, with it.
+    pub(crate) fn opened_by(alloc: Global, opening: &Segment) -> Result<Connection, AllocError>
+        ensures { IfOk result (λ c. membership c ≡ connection_with opening.now (opening.now ∷ [])) }
     {
-        segment.from == self.client && segment.seq == self.client_isn
+        let mut connection = Connection::of(alloc, opening)?;
+        connection.join(opening)?;
+        Ok(connection)
     }
 
     /// A side's initial sequence number, where the capture shows it.
@@ -66,11 +76,29 @@ impl Connection {
         ensures { OnOk result (membership self.new ≡ joined (membership self.old) segment.now) }
     {
         self.members.push(segment.rec)?;
-        let is_answer = segment.from != self.client && segment.syn && segment.ack;
-        if is_answer && self.server_isn.is_none() {
+        if is_answer(&self.client, segment) && self.server_isn.is_none() {
             self.server_isn = Some(segment.seq);
         }
         Ok(())
+    }
+}
+
+impl ConnectionVisitor for Connection {
+    ghost use Rattle.tcp_streams.specs.code.Opened.{HasJoined};
+
+    ghost after = { HasJoined };
+
+    fn begin(alloc: Global, opening: &Segment) -> Result<Connection, AllocError> {
+        Connection::of(alloc, opening)
+    }
+
+    fn take(
+        &mut self,
+        _alloc: Global,
+        segment: &Segment,
+        _payload: &[u8],
+    ) -> Result<(), AllocError> {
+        self.join(segment)
     }
 }
 

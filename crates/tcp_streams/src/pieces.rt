@@ -35,9 +35,9 @@ fn is_sent_by(of: &StartedSide<'_>, segment: &Segment) -> bool
 }
 
 /// The offsets that a segment's payload covers, of those that count.
-fn piece_of(initial_number: u32, segment: &Segment) -> Option<Interval>
+pub(crate) fn piece_of(initial_number: u32, segment: &Segment) -> Option<Interval>
     requires payload { segment.now.lo ≤ segment.now.hi }
-    requires short { segment.now.hi < 2 ^ 31 }
+    requires short { segment.now.hi ≤ 2 ^ 31 }
     ensures { result ≡ piece initial_number segment.now }
 {
     let start = start_of(initial_number, segment.seq, segment.syn);
@@ -60,7 +60,7 @@ fn start_of(initial_number: u32, seq: u32, syn: bool) -> u64
 
 /// The offsets from one up to another, from the payload byte `skipped` on, if there are any.
 fn stretch(segment: &Segment, skipped: u64, from: u64, upto: u64) -> Option<Interval>
-    requires index { segment.now.lo + skipped < 2 ^ 32 }
+    requires index { from < upto → segment.now.lo + skipped < 2 ^ 32 }
     requires upto { upto ≤ 2 ^ 31 }
     ensures { result ≡ stretch segment.now skipped from upto }
 {

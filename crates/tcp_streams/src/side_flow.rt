@@ -1,30 +1,34 @@
 //! The flow of one side while its segments come one by one, as intervals of the capture.
 
-ghost use Rattle.std.specs.Prelude.{◌≡◌, ℕ, ◌<◌, ◌≤◌, [], None, Some, Option, IsSome, IfSome, IfNone, OnOk};
+ghost use Rattle.std.specs.Prelude.{◌≡◌, ℕ, ◌<◌, ◌≤◌, List, [], ◌∷◌, All, None, Some, Option, IsSome, IfSome, IfNone};
+ghost use Rattle.std.specs.Prelude.{OnOk};
 ghost use Rattle.tcp_streams.specs.Flow.{IsGap};
 ghost use Rattle.tcp_streams.specs.Sequence.{Source, end_of_offsets};
-ghost use Rattle.tcp_streams.specs.code.Interval.{IsInterval};
-ghost use Rattle.tcp_streams.specs.code.SideFlow.{AreKept, IsGrowth, IsHeldAt, IsSideFlow, kept_at, with_interval};
+ghost use Rattle.tcp_streams.specs.code.Interval.{IsInterval, part_of};
+ghost use Rattle.tcp_streams.specs.code.SideFlow.{AllHold, AreKept, IsGrowth, IsHeldAt, IsSideFlow, intervals, kept_at};
+ghost use Rattle.tcp_streams.specs.code.SideFlow.{with_interval};
 ghost use Rattle.tcp_streams.specs.declared.interval.Interval.{Interval};
 
-use crate::interval::Interval;
+use crate::content::Content;
+use crate::interval::{Interval, Piece};
 use std::alloc::{AllocError, Global};
 use std::collections::BTreeMap;
 
 /// What is known of a side's stream so far: how far it goes without a hole, and what lies behind the first hole. Where
 /// several records bring a byte, the first has it.
 #[derive(Drop)]
-pub(crate) struct SideFlow {
+pub(crate) struct SideFlow<K> {
     /// How many bytes there are before the first hole.
     pub end: u32,
     /// What lies behind the hole, each interval under its first offset. No two of them hold one offset.
-    kept: BTreeMap<u32, Interval>,
+    kept: BTreeMap<u32, Piece<K>>,
 }
 
-impl SideFlow {
+impl<K: Content> SideFlow<K> {
     /// The flow before any segment.
-    pub fn new(alloc: Global) -> SideFlow
+    pub fn new(alloc: Global) -> SideFlow<K>
         ensures stands { IsSideFlow (λ _. None) result }
+        ensures holds { (of : Option (List ℕ)) → AllHold (K.holds of) result.kept }
         ensures end { result.end ≡ 0 }
     {
         SideFlow {
@@ -33,28 +37,54 @@ impl SideFlow {
         }
     }
 
-    /// Takes what a segment covers, and leaves in `run` by what the flow grew: parts of the segment, and of those
-    /// before it what is no longer behind a hole. Each interval takes steps in the logarithm of how many are kept, and
-    /// one that covers others as many steps more.
-    pub fn take(&mut self, x: &Interval, run: &mut Vec<Interval>) -> Result<(), AllocError>
+    /// Grows by what an interval has past the end, where nothing is kept and it begins no later: by that part of it.
+    pub fn extend(&mut self, x: &Interval) -> Option<Interval>
         requires { IsInterval x.now }
+        ensures part { IfSome result (λ new. new ≡ part_of x.now self.old.end x.now.upto) }
+        ensures inside { IfSome result (λ _. (x.now.from ≤ self.old.end) × (self.old.end < x.now.upto)) }
+        ensures stands { IfSome result (λ _. (sources : ℕ → Option Source)
+            → IsSideFlow sources self.old → IsSideFlow (with_interval sources x.now) self.new) }
+        ensures growth { IfSome result (λ new. (sources : ℕ → Option Source)
+            → IsSideFlow sources self.old
+            → IsGrowth (with_interval sources x.now) self.old.end self.new.end (new ∷ [])) }
+        ensures kept { self.new.kept ≡ self.old.kept }
+        ensures none { IfNone result (self.new ≡ self.old) }
+    {
+        if self.end < x.from || x.upto <= self.end || !self.kept.is_empty() {
+            return None;
+        }
+        let new = x.part(self.end, x.upto);
+        self.end = x.upto;
+        Some(new)
+    }
+
+    /// Takes what a segment covers, whose payload is given, and leaves in `run` by what the flow grew: parts of the
+    /// segment, and of those before it what is no longer behind a hole. Each interval takes steps in the logarithm of
+    /// how many are kept, and one that covers others as many steps more.
+    pub fn fill(
+        &mut self,
+        alloc: Global,
+        x: &Interval,
+        payload: &[u8],
+        run: &mut Vec<Piece<K>>,
+    ) -> Result<(), AllocError>
+        requires interval { IsInterval x.now }
+        requires given { K.gives None x.now payload.now }
         ensures stands { OnOk result ((sources : ℕ → Option Source)
             → IsSideFlow sources self.old → IsSideFlow (with_interval sources x.now) self.new) }
         ensures growth { OnOk result ((sources : ℕ → Option Source)
             → IsSideFlow sources self.old
-            → IsGrowth (with_interval sources x.now) self.old.end self.new.end run.new.items) }
+            → IsGrowth (with_interval sources x.now) self.old.end self.new.end (intervals run.new.items)) }
+        ensures holds { OnOk result ((of : Option (List ℕ))
+            → K.gives of x.now payload.now → AllHold (K.holds of) self.old.kept
+            → AllHold (K.holds of) self.new.kept
+            × All (λ p. K.holds of p.interval p.content) run.new.items) }
     {
         run.clear();
         if x.upto <= self.end {
             return Ok(());
         }
-        let new = x.part(x.from.max(self.end), x.upto);
-        if new.from == self.end && self.kept.is_empty() {
-            run.push(new)?;
-            self.end = new.upto;
-            return Ok(());
-        }
-        self.keep(&new)?;
+        self.keep(alloc, x, payload)?;
         self.hand_on(run)
     }
 
@@ -70,22 +100,33 @@ impl SideFlow {
         }
     }
 
-    /// Keeps the parts of an interval that nothing holds yet.
-    fn keep(&mut self, x: &Interval) -> Result<(), AllocError>
+    /// Keeps the parts of an interval past the end that nothing holds yet.
+    fn keep(&mut self, alloc: Global, x: &Interval, payload: &[u8]) -> Result<(), AllocError>
         requires interval { IsInterval x.now }
-        requires behind { self.old.end ≤ x.now.from }
+        requires ends { self.old.end < x.now.upto }
+        requires given { K.gives None x.now payload.now }
         ensures kept { OnOk result ((sources : ℕ → Option Source)
-            → AreKept self.old.end sources self.old.kept
-            → AreKept self.old.end (with_interval sources x.now) self.new.kept) }
+            → IsSideFlow sources self.old
+            → AreKept self.old.end (with_interval sources x.now) (kept_at self.new.kept)) }
+        ensures holds { OnOk result ((of : Option (List ℕ))
+            → K.gives of x.now payload.now → AllHold (K.holds of) self.old.kept
+            → AllHold (K.holds of) self.new.kept) }
         ensures end { OnOk result (self.new.end ≡ self.old.end) }
     {
-        let mut low = x.from;
+        let mut low = x.from.max(self.end);
         while low < x.upto {
             low = match self.held_upto(low) {
                 Some(upto) => upto,
                 None => {
                     let high = self.free_upto(low, x.upto);
-                    self.kept.insert(low, x.part(low, high))?;
+                    let content = K::part(alloc, x, payload, low, high)?;
+                    self.kept.insert(
+                        low,
+                        Piece {
+                            interval: x.part(low, high),
+                            content,
+                        },
+                    )?;
                     high
                 }
             };
@@ -96,12 +137,12 @@ impl SideFlow {
     /// Where the interval ends that holds an offset. None if nothing does.
     fn held_upto(&self, o: u32) -> Option<u32>
         ensures held { IfSome result (λ upto. (o < upto)
-            × ((k : ℕ) × (x : Interval) × IsHeldAt self.now.kept o k x × (x.upto ≡ upto))) }
+            × ((k : ℕ) × (x : Interval) × IsHeldAt (kept_at self.now.kept) o k x × (x.upto ≡ upto))) }
         ensures free { IfNone result ((low : ℕ) (sources : ℕ → Option Source) (k : ℕ) (x : Interval)
-            → AreKept low sources self.now.kept → kept_at self.now.kept k ≡ Some x → k ≤ o → x.upto ≤ o) }
+            → AreKept low sources (kept_at self.now.kept) → kept_at self.now.kept k ≡ Some x → k ≤ o → x.upto ≤ o) }
     {
         match self.kept.range(..=o).next_back() {
-            Some((_, x)) if o < x.upto => Some(x.upto),
+            Some((_, piece)) if o < piece.interval.upto => Some(piece.interval.upto),
             _ => None,
         }
     }
@@ -120,21 +161,54 @@ impl SideFlow {
     }
 
     /// Hands on what begins where the run ends, and what begins where that ends, and so on.
-    fn hand_on(&mut self, run: &mut Vec<Interval>) -> Result<(), AllocError>
+    fn hand_on(&mut self, run: &mut Vec<Piece<K>>) -> Result<(), AllocError>
         requires { run.old.items ≡ [] }
         ensures stands { OnOk result ((sources : ℕ → Option Source)
-            → AreKept self.old.end sources self.old.kept
+            → AreKept self.old.end sources (kept_at self.old.kept)
             → self.old.end ≤ end_of_offsets
             → ((o : ℕ) → o < self.old.end → IsSome (sources o))
             → IsSideFlow sources self.new) }
         ensures growth { OnOk result ((sources : ℕ → Option Source)
-            → AreKept self.old.end sources self.old.kept
-            → IsGrowth sources self.old.end self.new.end run.new.items) }
+            → AreKept self.old.end sources (kept_at self.old.kept)
+            → IsGrowth sources self.old.end self.new.end (intervals run.new.items)) }
+        ensures holds { OnOk result ((of : Option (List ℕ)) → AllHold (K.holds of) self.old.kept
+            → AllHold (K.holds of) self.new.kept
+            × All (λ p. K.holds of p.interval p.content) run.new.items) }
     {
         while let Some(next) = self.kept.remove(&self.end) {
+            let upto = next.interval.upto;
             run.push(next)?;
-            self.end = next.upto;
+            self.end = upto;
         }
         Ok(())
+    }
+}
+
+impl SideFlow<()> {
+    /// Takes what a segment covers, and leaves in `run` by what the flow grew.
+    pub fn take(
+        &mut self,
+        alloc: Global,
+        x: &Interval,
+        run: &mut Vec<Piece<()>>,
+    ) -> Result<(), AllocError>
+        requires { IsInterval x.now }
+        ensures stands { OnOk result ((sources : ℕ → Option Source)
+            → IsSideFlow sources self.old → IsSideFlow (with_interval sources x.now) self.new) }
+        ensures growth { OnOk result ((sources : ℕ → Option Source)
+            → IsSideFlow sources self.old
+            → IsGrowth (with_interval sources x.now) self.old.end self.new.end (intervals run.new.items)) }
+    {
+        match self.extend(x) {
+            Some(new) => {
+                run.clear();
+                run.push(Piece {
+                    interval: new,
+                    content: (),
+                })?;
+                Ok(())
+            }
+            None => self.fill(alloc, x, &[], run),
+        }
     }
 }

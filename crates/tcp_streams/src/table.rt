@@ -1,14 +1,15 @@
-ghost use Rattle.std.specs.Prelude.{◌≡◌, ◌+◌, ◌<◌, [], List, OnOk};
+ghost use Rattle.std.specs.Prelude.{◌≡◌, ◌+◌, ◌<◌, [], IfOk, List, OnOk};
 ghost use Rattle.tcp_streams.specs.Membership.{is_request};
 
-use crate::members::{Connection, Connections, Stray};
+use crate::members::Stray;
 use crate::pair::Pair;
 use crate::standings::{Standing, Standings};
 use input_output::TableHash;
-use packet_heads::Segment;
+use packet_heads::{Endpoint, Segment};
 use std::alloc::{AllocError, Global};
 
 /// What the next segment does.
+#[derive(Clone, Copy)]
 pub(crate) enum Turn {
     /// It opens a connection.
     Opens,
@@ -20,6 +21,13 @@ pub(crate) enum Turn {
     Begins,
 }
 
+/// Who opened a connection, and with which sequence number.
+#[derive(Clone, Copy)]
+pub(crate) struct Opener {
+    pub client: Endpoint,
+    pub number: u32,
+}
+
 /// Is it a SYN without ACK?
 fn is_request(segment: &Segment) -> bool
     ensures { result ≡ is_request segment.now }
@@ -27,24 +35,34 @@ fn is_request(segment: &Segment) -> bool
     segment.syn && !segment.ack
 }
 
-/// The connections and the strays of the segments seen so far.
+impl Opener {
+    ghost use Rattle.tcp_streams.specs.code.Past.{is_again};
+
+    /// Does the segment say again what the opening said?
+    fn is_repeated_by(&self, segment: &Segment) -> bool
+        ensures { result ≡ is_again segment.now self.now.client self.now.number }
+    {
+        segment.from == self.client && segment.seq == self.number
+    }
+}
+
+/// The openings and the strays of the segments seen so far: it says of each segment which connection it belongs to,
+/// whatever is kept of that.
 #[derive(Drop)]
 pub(crate) struct Table {
-    alloc: Global,
     pub standings: Standings,
-    pub opened: Vec<Connection>,
+    pub openers: Vec<Opener>,
     pub strays: Vec<Stray>,
 }
 
 impl Table {
     ghost use Rattle.packet_heads.specs.declared.packets.Segment.{Segment as Shown};
-    ghost use Rattle.std.specs.Prelude.{◌∷◌, ◌++◌, map, length};
-    ghost use Rattle.packet_heads.specs.code.Order.{AreNumberedFrom};
+    ghost use Rattle.std.specs.Prelude.{◌∷◌, ◌++◌, length};
     ghost use Rattle.packet_heads.specs.declared.packets.Packet.{Packet};
-    ghost use Rattle.tcp_streams.specs.code.Past.{membership, past_of};
+    ghost use Rattle.tcp_streams.specs.Membership.{strays_of};
+    ghost use Rattle.tcp_streams.specs.code.Past.{past_of};
     ghost use Rattle.tcp_streams.specs.code.Pairs.{pair_of};
-    ghost use Rattle.tcp_streams.specs.code.Table.{AreFoundIn, HasPast, IsTableOf, IsTurn, RecordsDescend, opened_by};
-    ghost use Rattle.tcp_streams.specs.code.Table.{first_stray};
+    ghost use Rattle.tcp_streams.specs.code.Table.{HasPast, IsTableOf, IsTurn, first_stray, opener_of};
     ghost use Rattle.tcp_streams.specs.code.Standings.{SetsStanding, standing_of};
     ghost use Rattle.tcp_streams.specs.declared.standings.Standing.TheVariants.{Opened, Unopened};
 
@@ -52,33 +70,35 @@ impl Table {
         ensures { IsTableOf [] result }
     {
         Table {
-            alloc,
             standings: Standings::new(alloc, hash),
-            opened: Vec::new(alloc),
+            openers: Vec::new(alloc),
             strays: Vec::new(alloc),
         }
     }
 
-    /// Takes in the next segment.
-    pub fn add(&mut self, segment: &Segment) -> Result<(), AllocError>
+    /// Takes in the next segment, and says what it does.
+    pub fn add(&mut self, segment: &Segment) -> Result<Turn, AllocError>
         requires { HasPast self.old }
-        ensures { OnOk result ((past : List Shown) → IsTableOf past self.old → RecordsDescend segment.now.rec past
+        ensures turn { (past : List Shown) → IsTableOf past self.old → IfOk result (IsTurn past segment.now) }
+        ensures table { OnOk result ((past : List Shown) → IsTableOf past self.old
             → IsTableOf (segment.now ∷ past) self.new) }
     {
         let standing = self.standings.find(&Pair::of(segment));
-        self.take(segment, standing)
+        let turn = self.turn(segment, standing);
+        self.take(segment, turn)?;
+        Ok(turn)
     }
 
-    /// Takes in the next segment, whose pair stands so.
-    fn take(&mut self, segment: &Segment, standing: Option<Standing>) -> Result<(), AllocError>
+    /// Takes in the next segment, which does this.
+    fn take(&mut self, segment: &Segment, turn: Turn) -> Result<(), AllocError>
         requires past { HasPast self.old }
-        requires standing { standing ≡ standing_of self.old.standings (pair_of segment.now) }
-        ensures { OnOk result ((past : List Shown) → IsTableOf past self.old → RecordsDescend segment.now.rec past
+        requires turn { (past : List Shown) → IsTableOf past self.old → IsTurn past segment.now turn }
+        ensures { OnOk result ((past : List Shown) → IsTableOf past self.old
             → IsTableOf (segment.now ∷ past) self.new) }
     {
-        match self.turn(segment, standing) {
+        match turn {
             Turn::Opens => self.open(segment),
-            Turn::Joins(k) => self.opened[k].join(segment),
+            Turn::Joins(_) => Ok(()),
             Turn::Counts(k) => {
                 self.strays[k].segments += 1;
                 Ok(())
@@ -110,7 +130,7 @@ impl Table {
                     }
                 }
                 Standing::Opened(k) => {
-                    if is_request(segment) && !self.opened[k].is_reopened_by(segment) {
+                    if is_request(segment) && !self.openers[k].is_repeated_by(segment) {
                         Turn::Opens
                     } else {
                         Turn::Joins(k)
@@ -122,23 +142,24 @@ impl Table {
 
     /// Takes in a segment that opens a connection.
     fn open(&mut self, segment: &Segment) -> Result<(), AllocError>
-        ensures opened { OnOk result (map membership self.new.opened.items
-            ≡ map membership self.old.opened.items ++ opened_by segment.now ∷ []) }
+        ensures openers { OnOk result (self.new.openers.items ≡ self.old.openers.items ++ opener_of segment.now ∷ []) }
         ensures strays { OnOk result (self.new.strays.items ≡ self.old.strays.items) }
         ensures standings { OnOk result
-            (SetsStanding (pair_of segment.now) (Opened (length self.old.opened.items))
+            (SetsStanding (pair_of segment.now) (Opened (length self.old.openers.items))
             self.old.standings self.new.standings) }
     {
-        let connection = Connection::opened_by(self.alloc, segment)?;
-        let index = self.connection_count();
-        self.opened.push(connection)?;
+        let index = self.opener_count();
+        self.openers.push(Opener {
+            client: segment.from,
+            number: segment.seq,
+        })?;
         self.standings
             .set(Pair::of(segment), Standing::Opened(index))
     }
 
     /// Takes in the first stray of its pair.
     fn begin(&mut self, segment: &Segment) -> Result<(), AllocError>
-        ensures opened { OnOk result (self.new.opened.items ≡ self.old.opened.items) }
+        ensures openers { OnOk result (self.new.openers.items ≡ self.old.openers.items) }
         ensures strays { OnOk result (self.new.strays.items ≡ self.old.strays.items ++ first_stray segment.now ∷ []) }
         ensures standings { OnOk result
             (SetsStanding (pair_of segment.now) (Unopened (length self.old.strays.items))
@@ -154,21 +175,17 @@ impl Table {
             .set(Pair::of(segment), Standing::Unopened(index))
     }
 
-    /// What was found in the packets that it has taken in.
-    pub fn into_connections(self) -> Connections
-        ensures { (packets : List Packet) → AreNumberedFrom 1 packets → IsTableOf (past_of packets) self
-            → AreFoundIn packets result }
+    /// The strays of the packets that it has taken in.
+    pub fn into_strays(self) -> Vec<Stray>
+        ensures { (packets : List Packet) → IsTableOf (past_of packets) self → result.items ≡ strays_of packets }
     {
-        Connections {
-            opened: self.opened,
-            strays: self.strays,
-        }
+        self.strays
     }
 
-    fn connection_count(&self) -> usize
-        ensures { result ≡ length self.now.opened.items }
+    fn opener_count(&self) -> usize
+        ensures { result ≡ length self.now.openers.items }
     {
-        self.opened.len()
+        self.openers.len()
     }
 
     fn stray_count(&self) -> usize

@@ -1,12 +1,10 @@
 //! What is made of the packets of a capture while they come.
 
-ghost use Rattle.std.specs.Prelude.{List, [], OnOk};
-ghost use Rattle.packet_heads.specs.declared.packets.Segment.{Segment as Shown};
-ghost use Rattle.tcp_streams.specs.code.Past.{with_packet};
-ghost use Rattle.tcp_streams.specs.code.Table.{ComesBehind, HasPast, IsTableOf};
+ghost use Rattle.std.specs.Prelude.{[]};
 ghost use Rattle.tcp_streams.specs.code.Walk.{HasTaken};
 
-use crate::table::Table;
+use crate::connection_stage::ConnectionStage;
+use crate::members::Connection;
 use input_output::TableHash;
 use packet_heads::{MadePackets, Packet, PacketVisitor};
 use std::alloc::{AllocError, Global};
@@ -15,7 +13,7 @@ use std::alloc::{AllocError, Global};
 #[derive(Drop)]
 pub(crate) struct Taken {
     pub packets: MadePackets,
-    pub table: Table,
+    pub connections: ConnectionStage<Connection>,
 }
 
 impl Taken {
@@ -25,7 +23,7 @@ impl Taken {
     {
         Taken {
             packets: MadePackets::new(alloc),
-            table: Table::new(alloc, hash),
+            connections: ConnectionStage::new(alloc, hash),
         }
     }
 }
@@ -33,20 +31,8 @@ impl Taken {
 impl PacketVisitor for Taken {
     ghost after = { HasTaken };
 
-    fn take(&mut self, alloc: Global, packet: &Packet, _payload: &[u8]) -> Result<(), AllocError> {
-        add(&mut self.table, packet)?;
+    fn take(&mut self, alloc: Global, packet: &Packet, payload: &[u8]) -> Result<(), AllocError> {
+        self.connections.take(alloc, packet, payload)?;
         self.packets.push(alloc, *packet)
-    }
-}
-
-/// Takes the next packet into a table, if it is a segment.
-fn add(table: &mut Table, packet: &Packet) -> Result<(), AllocError>
-    requires { HasPast table.old }
-    ensures { OnOk result ((past : List Shown) → IsTableOf past table.old → ComesBehind past packet.now
-        → IsTableOf (with_packet past packet.now) table.new) }
-{
-    match packet {
-        Packet::Segment(segment) => table.add(segment),
-        _ => Ok(()),
     }
 }

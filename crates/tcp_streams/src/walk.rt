@@ -70,9 +70,13 @@ impl ConnectionWalk {
     {
         match self.packets.finish(alloc, capture) {
             Ok((taken, cut)) => {
-                let Taken { packets, table } = taken;
+                let Taken {
+                    packets,
+                    connections,
+                } = taken;
                 let found = CapturePackets { packets, cut };
-                Ok((found, table.into_connections()))
+                let (opened, strays) = connections.into_parts();
+                Ok((found, Connections { opened, strays }))
             }
             Err(fault) => Err(fault),
         }

@@ -5,6 +5,7 @@
 ghost use Rattle.tcp_streams.specs.examples.Connections.{FirstSynAckOfTheServer, OneEndpoint, OpenedAfterStrays};
 ghost use Rattle.tcp_streams.specs.examples.Connections.{OpenedTwice, PortsTellApart, RepeatedSyn, StraysOfTwoPairs};
 ghost use Rattle.tcp_streams.specs.examples.Connections.{SynFromTheOtherEnd};
+ghost use Rattle.tcp_streams.specs.examples.Growth.{ArrivalsOfGrowths, BytesOfGrowths};
 ghost use Rattle.tcp_streams.specs.examples.Growth.{ArrivalsOfFilledHole, FilledHole, KeptBehindHole, RunBeforeHole};
 ghost use Rattle.tcp_streams.specs.examples.Offsets.{BelowOffsetZero, FirstRecordWins, LastOffset, PayloadOfSyn};
 ghost use Rattle.tcp_streams.specs.examples.Offsets.{WrappedArrivals, WrappedSources};
@@ -51,4 +52,6 @@ pub fn growth()
     ensures kept_behind_hole { KeptBehindHole }
     ensures filled_hole { FilledHole }
     ensures arrivals_of_filled_hole { ArrivalsOfFilledHole }
+    ensures arrivals_of_growths { ArrivalsOfGrowths }
+    ensures bytes_of_growths { BytesOfGrowths }
 {}

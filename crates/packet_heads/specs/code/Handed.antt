@@ -1,11 +1,12 @@
 -- What is handed on of the records of a capture: packets, and the payloads of segments.
-use Rattle.std.specs.Prelude.{◌≡◌, ℕ, ◌+◌, ◌-◌, ◌^◌, ◌<◌, List, [], ◌∷◌, length, map, slice_range}
+use Rattle.std.specs.Prelude.{◌≡◌, ℕ, ◌+◌, ◌-◌, ◌^◌, ◌<◌, ◌≤◌, List, [], ◌∷◌, ◌++◌, length, map, slice_range}
 use Rattle.pcap_records.specs.code.Walk.{Captured}
 use Rattle.pcap_records.specs.declared.pcap_record.Record.{Record}
 use Rattle.packet_heads.specs.declared.packets.Packet.{Packet}
 use Rattle.packet_heads.specs.declared.packets.Packet.TheVariants.{Segment}
+use Rattle.packet_heads.specs.declared.packets.Segment.{Segment as TcpSegment}
 use Rattle.packet_heads.specs.Decision.{decision_on}
-use Rattle.packet_heads.specs.code.Order.{AreNumberedFrom}
+use Rattle.packet_heads.specs.code.Order.{AreNumberedFrom, PayloadsRise}
 use Rattle.packet_heads.specs.code.Standing.{StandsIn}
 
 -- a packet, and its payload
@@ -33,10 +34,24 @@ AreHanded link number (one ∷ seen) (first ∷ handed) =
     IsHanded link number one first × AreHanded link (number + 1) seen handed
 AreHanded link number _ _ = ⊥
 
--- the packet comes next, behind these
-pub record IsNextPacket (handed : List Handed) (packet : Packet) : Type 0 where
+-- a segment with its payload, none of which stands past 2 ^ 31, and its time
+pub record IsCarried (s : TcpSegment) (payload : List ℕ) : Type 0 where
+  pub ordered : s.lo ≤ s.hi
+  pub within : s.hi ≤ 2 ^ 31
+  pub size : length payload ≡ s.hi - s.lo
+  pub timely : s.nanos < 2 ^ 63
+
+-- the same of what a packet carries
+abbrev pub HasPayload : Packet → List ℕ → Type 0
+HasPayload (Segment s) payload = IsCarried s payload
+HasPayload _ payload = Unit {0}
+
+-- the packet with this payload comes next, behind these: all payloads stand one after the other behind the file header
+pub record IsNextPacket (handed : List Handed) (packet : Packet) (payload : List ℕ) : Type 0 where
   pub few : length handed < 2 ^ 27
   pub numbered : AreNumberedFrom (length handed + 1) (packet ∷ [])
+  pub has : HasPayload packet payload
+  pub rise : PayloadsRise 24 (2 ^ 31) (packets_among handed ++ packet ∷ [])
 
 -- each segment's payload are the bytes that stand in the capture from its first offset to its last
 abbrev pub ArePayloadsOf : List ℕ → List Handed → Type 0

@@ -61,6 +61,7 @@ AreCaptured front seen =
 pub record IsNext (link : ℕ) (seen : List Captured) (row : Record) (packet : List ℕ) : Type 0 where
   pub linked : IsTrue (is_read link)
   pub few : 16 * length seen + 40 ≤ row.start
+  pub behind : RiseFrom 24 row.start (rows_of seen)
   pub within : row.start + row.length ≤ 2 ^ 31
   pub size : length packet ≡ row.length
   pub soon : row.nanos < 2 ^ 63

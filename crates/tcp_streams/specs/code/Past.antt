@@ -33,6 +33,10 @@ past_of packets = past_after [] packets
 abbrev pub is_again : Segment → Endpoint → ℕ → Bool
 is_again s from seq = is_endpoint s.from from && (s.seq == seq)
 
+-- a server's SYN with ACK (RFC 9293, 3.5), to this client
+abbrev pub answers : Endpoint → Segment → Bool
+answers client s = not (is_endpoint s.from client) && (s.syn && s.ack)
+
 -- the segment says again what the opening said: the same sender, the same sequence number
 abbrev pub repeats : Segment → Option Segment → Bool
 repeats s None = false
@@ -96,17 +100,20 @@ membership c = record {
   members = c.members.items;
 }
 
--- the connection of an opening: the opener is the client, and its sequence number the client's initial
--- number; the server's is that of the first SYN with ACK which is not the opener's (RFC 9293, 3.4)
-abbrev pub connection_of : List Segment → Segment → Membership
-connection_of past o = record {
+-- the connection of an opening with these members: the opener is the client, and its sequence number the client's
+-- initial number; the server's is that of the first SYN with ACK which is not the opener's (RFC 9293, 3.4)
+abbrev pub connection_with : Segment → List Segment → Membership
+connection_with o joined = record {
   client = o.from;
   server = o.to;
   rec = o.rec;
   client_isn = o.seq;
-  server_isn = option_map (λ (s : Segment). s.seq) (find (is_answer o) (members o past));
-  members = map (λ (s : Segment). s.rec) (members o past);
+  server_isn = option_map (λ (s : Segment). s.seq) (find (is_answer o) joined);
+  members = map (λ (s : Segment). s.rec) joined;
 }
+
+abbrev pub connection_of : List Segment → Segment → Membership
+connection_of past o = connection_with o (members o past)
 
 -- the strays of a pair, of all strays, named by the first of them
 abbrev pub stray_of : List Segment → Segment → Stray

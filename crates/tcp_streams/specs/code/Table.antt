@@ -1,44 +1,27 @@
--- The table that `connections` and a walk keep, against the past that it has seen. No public clause cites these, but
--- that on a walk (`Walk`).
-use Rattle.std.specs.Prelude.{◌≡◌, ℕ, ◌+◌, ◌<◌, ◌≤◌, ◌^◌, Bool, true, false, ◌&&◌, not, if◌then◌else◌, List, [], ◌∷◌}
-use Rattle.std.specs.Prelude.{◌++◌, length, map, take, All, Option, None, Some, slice_get}
-use Rattle.std.specs.List.{list_any}
+-- The table that says which connection a segment belongs to, against the past that it has seen. No public clause cites
+-- these, but those on a stage and on a walk (`Opened`, `Walk`).
+use Rattle.std.specs.Prelude.{◌≡◌, ℕ, ◌+◌, ◌<◌, ◌^◌, true, false, if◌then◌else◌, List, [], ◌∷◌, ◌++◌, length, map}
+use Rattle.std.specs.Prelude.{Option, None, Some, slice_get}
+use Rattle.std.specs.List.{AllZip, list_any}
 use Rattle.std.specs.Option.{option_or}
-use Rattle.packet_heads.specs.code.Order.{AreNumberedFrom}
-use Rattle.packet_heads.specs.declared.packets.Packet.{Packet}
-use Rattle.packet_heads.specs.declared.packets.Packet.TheVariants.{Segment as Carried}
 use Rattle.packet_heads.specs.declared.packets.Segment.{Segment}
-use Rattle.tcp_streams.specs.Membership.{AreConnections, strays_of}
-use Rattle.tcp_streams.specs.code.Orderly.{AreMembers}
 use Rattle.tcp_streams.specs.declared.members.Connection.{Connection}
-use Rattle.tcp_streams.specs.declared.members.Connections.{Connections}
 use Rattle.tcp_streams.specs.declared.members.Stray.{Stray}
 use Rattle.tcp_streams.specs.declared.pair.Pair.{Pair}
 use Rattle.tcp_streams.specs.declared.standings.Standing.{Standing}
 use Rattle.tcp_streams.specs.declared.standings.Standing.TheVariants.{Unopened, Opened}
+use Rattle.tcp_streams.specs.declared.table.Opener.{Opener}
 use Rattle.tcp_streams.specs.declared.table.Table.{Table}
 use Rattle.tcp_streams.specs.declared.table.Turn.{Turn}
 use Rattle.tcp_streams.specs.declared.table.Turn.TheVariants.{Opens, Joins, Counts, Begins}
 use Rattle.tcp_streams.specs.code.Standings.{standing_of}
-use Rattle.tcp_streams.specs.Pair.{is_endpoint}
 use Rattle.tcp_streams.specs.code.Pairs.{is_of, pair_of}
-use Rattle.tcp_streams.specs.code.Past.{Membership, connection_of, first_strays, last_opening, membership, openings}
-use Rattle.tcp_streams.specs.code.Past.{opens, past_of, stray_of, strays}
+use Rattle.tcp_streams.specs.code.Past.{Membership, answers, connection_of, first_strays, last_opening, membership}
+use Rattle.tcp_streams.specs.code.Past.{openings, opens, stray_of, strays}
 
--- the connection that a segment opens
-abbrev pub opened_by : Segment → Membership
-opened_by s = record {
-  client = s.from;
-  server = s.to;
-  rec = s.rec;
-  client_isn = s.seq;
-  server_isn = None;
-  members = s.rec ∷ [];
-}
-
--- the segment is a server's SYN with ACK
-abbrev pub answers : Membership → Segment → Bool
-answers c s = not (is_endpoint s.from c.client) && (s.syn && s.ack)
+-- who opens a connection by this segment
+abbrev pub opener_of : Segment → Opener
+opener_of s = record { client = s.from; number = s.seq }
 
 -- the connection with one more segment
 abbrev pub joined : Membership → Segment → Membership
@@ -47,7 +30,7 @@ joined c s = record {
   server = c.server;
   rec = c.rec;
   client_isn = c.client_isn;
-  server_isn = option_or c.server_isn (if answers c s then Some s.seq else None);
+  server_isn = option_or c.server_isn (if answers c.client s then Some s.seq else None);
   members = c.members ++ s.rec ∷ [];
 }
 
@@ -85,42 +68,29 @@ Stands past p (Some (Opened k)) = IsOpened past p k
 
 -- the parts of a table show this past
 pub record IsShown
-    (past : List Segment) (standing : Pair → Option Standing) (opened : List Membership) (found : List Stray)
+    (past : List Segment) (standing : Pair → Option Standing) (openers : List Opener) (found : List Stray)
     : Type 0 where
-  pub opened_are : opened ≡ map (connection_of past) (openings past)
+  pub openers_are : openers ≡ map opener_of (openings past)
   pub strays_are : found ≡ map (stray_of (strays past)) (first_strays past)
   pub stands : (p : Pair) → Stands past p (standing p)
 
 -- the table shows this past
 abbrev pub IsTableOf : List Segment → Table → Type 0
-IsTableOf past t = IsShown past (standing_of t.standings) (map membership t.opened.items) t.strays.items
+IsTableOf past t = IsShown past (standing_of t.standings) t.openers.items t.strays.items
 
 -- the records fall along the past, from below n
 abbrev pub RecordsDescend : ℕ → List Segment → Type 0
 RecordsDescend n [] = Unit {0}
 RecordsDescend n (s ∷ earlier) = (s.rec < n) × RecordsDescend s.rec earlier
 
--- the packet, if it is a segment, comes after those of the past
-abbrev pub ComesBehind : List Segment → Packet → Type 0
-ComesBehind past (Carried s) = RecordsDescend s.rec past
-ComesBehind past _ = Unit {0}
-
 -- the table shows some past, with room for one more segment to be counted
 abbrev pub HasPast : Table → Type 0
 HasPast t = (past : List Segment) × IsTableOf past t × (length past + 1 < 2 ^ 32)
 
--- the table shows the packets before this index, of those of a capture
-pub record IsTableOfFront (packets : List Packet) (index : ℕ) (t : Table) : Type 0 where
-  pub few : length packets < 2 ^ 32
-  pub numbered : AreNumberedFrom 1 packets
-  pub within : index ≤ length packets
-  pub table : IsTableOf (past_of (take index packets)) t
-
--- these are the connections and the strays of the packets
-pub record AreFoundIn (packets : List Packet) (found : Connections) : Type 0 where
-  pub opened : AreConnections packets found.opened.items
-  pub strays : found.strays.items ≡ strays_of packets
-  pub members : All (λ (c : Connection). AreMembers 0 packets c.members.items) found.opened.items
+-- these are the connections of the past, in order of opening
+abbrev pub AreConnectionsOf : List Segment → List Connection → Type 0
+AreConnectionsOf past found =
+    AllZip (λ (o : Segment) (c : Connection). membership c ≡ connection_of past o) (openings past) found
 
 -- what a segment does to a table of this past
 abbrev pub IsTurn : List Segment → Segment → Turn → Type 0

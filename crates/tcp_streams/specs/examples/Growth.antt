@@ -1,8 +1,10 @@
 -- A worked example of growth: a hole, bytes behind it, one of them sent again, and the segment that fills it
 -- (RFC 9293, 3.4). Each stage is the stage before it and one segment more.
-use Rattle.std.specs.Prelude.{◌≡◌, ℕ, ◌*◌, true, false, List, [], ◌∷◌, map, take, Option, Some, None}
+use Rattle.std.specs.Prelude.{◌≡◌, ℕ, ◌*◌, ◌++◌, true, false, List, [], ◌∷◌, map, take, Option, Some, None}
+use Rattle.audit_terms.specs.declared.sides.Side.TheVariants.{Client, Server}
 use Rattle.packet_heads.specs.declared.packets.Segment.{Segment}
 use Rattle.tcp_streams.specs.Sequence.{Source, arrival, source}
+use Rattle.tcp_streams.specs.code.Grown.{Growth, arrivals_grown, bytes_grown, of_side}
 use Rattle.tcp_streams.specs.examples.Captured.{endpoint, segment}
 
 -- the client's segment in this record, whose payload of this length begins at an index of a hundred times the record
@@ -44,3 +46,22 @@ ArrivalsOfFilledHole =
     map (arrival (source 1000 segments)) (0 ∷ 1 ∷ 2 ∷ 3 ∷ 4 ∷ 5 ∷ 6 ∷ [])
     ≡ byte_of 3 300 ∷ byte_of 3 300
     ∷ byte_of 6 600 ∷ byte_of 6 600 ∷ byte_of 6 600 ∷ byte_of 6 600 ∷ byte_of 6 600 ∷ []
+
+-- what the client's flow grew by, as it is handed on: two bytes with record 3, and with record 6 those that it brings,
+-- and then those behind the hole, in two pieces
+abbrev grew : (rec : ℕ) → List ℕ → Growth
+grew rec bytes = record { side = Client; bytes = bytes; rec = rec; nanos = rec * 1000 }
+
+abbrev handed_on : List Growth
+handed_on = grew 3 (10 ∷ 11 ∷ []) ∷ grew 6 (12 ∷ 13 ∷ []) ∷ grew 6 (14 ∷ 15 ∷ []) ∷ grew 6 (16 ∷ []) ∷ []
+
+-- what came with one record is one arrival
+abbrev pub ArrivalsOfGrowths : Type 0
+ArrivalsOfGrowths =
+    arrivals_grown 0 handed_on
+    ≡ record { upto = 2; rec = 3; nanos = 3000 } ∷ record { upto = 7; rec = 6; nanos = 6000 } ∷ []
+
+abbrev pub BytesOfGrowths : Type 0
+BytesOfGrowths =
+    bytes_grown (of_side Client (handed_on ++ record { side = Server; bytes = 9 ∷ []; rec = 7; nanos = 0 } ∷ []))
+    ≡ 10 ∷ 11 ∷ 12 ∷ 13 ∷ 14 ∷ 15 ∷ 16 ∷ []

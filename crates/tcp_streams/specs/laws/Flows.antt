@@ -1,15 +1,19 @@
 -- Laws of the definitions, which the calls of the module `laws` promise.
 use Rattle.std.specs.Prelude.{◌≡◌, ℕ, ◌+◌, ◌-◌, ◌%◌, ◌^◌, ◌<◌, ◌≤◌, if◌then◌else◌, List, sum_by, Option, Some}
+use Rattle.audit_terms.specs.declared.sides.Side.{Side}
 use Rattle.audit_terms.specs.declared.sides.Side.TheVariants.{Client, Server}
 use Rattle.packet_heads.specs.declared.packets.Packet.{Packet}
 use Rattle.packet_heads.specs.declared.packets.Segment.{Segment}
 use Rattle.packet_heads.specs.code.Order.{AreNumberedFrom, PayloadsRise}
 use Rattle.tcp_streams.specs.declared.members.Connection.{Connection}
 use Rattle.tcp_streams.specs.declared.flows.Arrival.{Arrival}
-use Rattle.tcp_streams.specs.Flow.{IsFlow}
+use Rattle.tcp_streams.specs.declared.flows.Flow.{Flow}
+use Rattle.tcp_streams.specs.Flow.{IsFlow, IsFlowFrom}
 use Rattle.tcp_streams.specs.code.Orderly.{AreMembers, payload_sum}
-use Rattle.tcp_streams.specs.Members.{side_segments}
-use Rattle.tcp_streams.specs.Membership.{AreConnections}
+use Rattle.tcp_streams.specs.code.SentFlows.{IsFlowSent}
+use Rattle.tcp_streams.specs.code.Side.{Sent, segments_among}
+use Rattle.tcp_streams.specs.Members.{initial_of, side_segments}
+use Rattle.tcp_streams.specs.Membership.{AreConnections, IsConnectionOf, belongings, members}
 use Rattle.tcp_streams.specs.Sequence.{Source, brings, payload_length}
 
 -- a source has one flow: its bytes, its arrivals and its gap are determined
@@ -46,3 +50,16 @@ FlowsFit =
     payload_sum (side_segments packets c Client) + payload_sum (side_segments packets c Server))
     found
     ≤ size
+
+-- the flow of a side of an opening's connection, which `assemble` gives, is that of the segments that belong to the
+-- opening, as they are sent one by one; and the other way round
+abbrev pub FlowsAreThoseSent : Type 0
+FlowsAreThoseSent =
+    (capture : List ℕ) (packets : List Packet) (connection : Connection) (opening : Segment) (sent : List Sent)
+    (side : Side) (flow : Flow)
+    → AreNumberedFrom 1 packets → IsConnectionOf (belongings packets) opening connection
+    → segments_among sent ≡ members opening (belongings packets)
+    → (IsFlowFrom (initial_of connection side) capture (side_segments packets connection side) flow
+    → IsFlowSent capture opening sent side flow)
+    × (IsFlowSent capture opening sent side flow
+    → IsFlowFrom (initial_of connection side) capture (side_segments packets connection side) flow)

@@ -1,5 +1,7 @@
 use Rattle.tcp_streams.proofs.Words.{◌≡◌, ◌<◌, arith, append-nil, filter_map, length, member_piece, refl, take}
 use Rattle.tcp_streams.proofs.Words.{take_all, true}
+use Rattle.tcp_streams.proofs.SideFlowSteps.{intervals-length}
+use Rattle.tcp_streams.specs.code.SideFlow.{intervals}
 use Rattle.tcp_streams.proofs.{Lists.filter_map-more, Sides.assembled, Sides.next-inside, Sides.next-more}
 use Rattle.tcp_streams.proofs.Sides.{next-same, piece-inside, split-at}
 use Rattle.tcp_streams.proofs.assembly.flow_from.Goals.{in-Some+in_ok-take+else-not-is_empty, in_default}
@@ -21,7 +23,8 @@ push_run-requires c =
     let split = split-at c.args.capture.now c.args.of.now c.requires k c.in-Some.piece (rw c.in-Some.is at next) in
     rw c.deref.ensures.value
     (next-inside c.args.capture.now c.args.of.now c.requires k c.in-Some.piece split c.loop-member.side c.take.new.self
-    _ _ c.take.new.run.items c.loop-member.invariant c.in_ok-take.ensures.stands c.in_ok-take.ensures.growth)
+    _ _ (intervals c.take.new.run.items) c.loop-member.invariant c.in_ok-take.ensures.stands
+    c.in_ok-take.ensures.growth)
 
 pub loop-member-preserved : goal.loop-member-preserved
 loop-member-preserved c =
@@ -35,8 +38,14 @@ loop-member-preserved c =
       | in-Some+in_ok-take+then-not-is_empty+in_ok-push_run+in_ok-push w ↦
           let split = split-at c.args.capture.now c.args.of.now c.requires k w.in-Some.piece
           (rw w.in-Some.is at next) in
-          let some : 0 < length w.take.new.run.items =
-          grind (arith, w.is_empty.ensures, w.if-not-is_empty.true, w.if-not-is_empty.ensures) in
+          let some : 0 < length (intervals w.take.new.run.items) =
+          grind (
+            arith,
+            intervals-length w.take.new.run.items,
+            w.is_empty.ensures,
+            w.if-not-is_empty.true,
+            w.if-not-is_empty.ensures,
+          ) in
           rw (
             next,
             w.in-Some.is,
@@ -49,16 +58,22 @@ loop-member-preserved c =
             w.deref.ensures.value,
           )
           (next-more c.args.capture.now c.args.of.now c.requires k w.in-Some.piece split c.loop-member.side
-          w.take.new.self _ _ w.take.new.run.items c.loop-member.invariant w.in_ok-take.ensures.stands
+          w.take.new.self _ _ (intervals w.take.new.run.items) c.loop-member.invariant w.in_ok-take.ensures.stands
           w.in_ok-take.ensures.growth some)
       | in-Some+in_ok-take+else-not-is_empty w ↦
           let split = split-at c.args.capture.now c.args.of.now c.requires k w.in-Some.piece
           (rw w.in-Some.is at next) in
-          let none : length w.take.new.run.items ≡ 0 =
-          grind (arith, w.is_empty.ensures, w.if-not-is_empty.false, w.if-not-is_empty.ensures) in
+          let none : length (intervals w.take.new.run.items) ≡ 0 =
+          grind (
+            arith,
+            intervals-length w.take.new.run.items,
+            w.is_empty.ensures,
+            w.if-not-is_empty.false,
+            w.if-not-is_empty.ensures,
+          ) in
           rw (next, w.in-Some.is, w.side-is, w.pieces-is, w.arrivals-is)
           (next-same c.args.capture.now c.args.of.now c.requires k w.in-Some.piece split c.loop-member.side
-          w.take.new.self _ _ w.take.new.run.items c.loop-member.invariant w.in_ok-take.ensures.stands
+          w.take.new.self _ _ (intervals w.take.new.run.items) c.loop-member.invariant w.in_ok-take.ensures.stands
           w.in_ok-take.ensures.growth none)
       | in_default w ↦
           rw (next, w.in_default.is, w.side-is, w.pieces-is, w.arrivals-is, append-nil (filter_map f (take k members)))

@@ -1,32 +1,50 @@
-use Rattle.tcp_streams.proofs.Words.{sym}
+use Rattle.std.proofs.Common.{subst}
+use Rattle.tcp_streams.proofs.Words.{All-push, None, Some, refl, sym}
 use Rattle.tcp_streams.proofs.SideFlowLemmas.{kept-unchanged, longest-run, ne-eq}
-use Rattle.tcp_streams.proofs.SideFlowSteps.{covered-more, growth-none, growth-within, one-handed-on}
+use Rattle.tcp_streams.proofs.SideFlowSteps.{covered-more, growth-within, held-less, intervals-push, kept-is}
+use Rattle.tcp_streams.proofs.SideFlowSteps.{one-handed-on}
+use Rattle.tcp_streams.specs.code.SideFlow.{IsGrowth, intervals, kept_at}
 use Rattle.tcp_streams.proofs.side_flow.SideFlow.hand_on.Goals as goal
 
-pub loop-next-init : goal.loop-next-init
-loop-next-init c = λ sources h. (h, rw c.requires (growth-none sources c.args.self.now.end))
-
 pub loop-next-preserved : goal.loop-next-preserved
-loop-next-preserved c = λ sources h.
-    let (now, growth) = c.loop-next.invariant sources h in
+loop-next-preserved g c =
     let updates = c.in-Some.ensures.updates in
-    rw c.in_ok-push.ensures.items
-    (one-handed-on sources c.loop-next.self.kept c.remove.new.self c.args.self.now.end c.loop-next.self.end
-    c.in-Some.next c.loop-next.run.items now growth (sym c.in-Some.ensures.value) updates.1
-    (λ q ne. updates.2 q (ne-eq c.loop-next.self.end q ne)))
+    let old = c.loop-next.self.kept in
+    let new = c.remove.new.self in
+    let end = c.loop-next.self.end in
+    let next = c.in-Some.next in
+    let run = c.loop-next.run.items in
+    rw c.in_ok-push.ensures.items (record {
+      flow = λ sources h.
+          let (now, growth) = c.loop-next.invariant.flow sources h in
+          let (kept, grown) = one-handed-on sources (kept_at old) (kept_at new) c.args.self.now.end end next.interval
+          (intervals run) now growth (kept-is old end (Some next) (sym c.in-Some.ensures.value))
+          (kept-is new end None updates.1)
+          (λ q ne. kept-is new q _ (updates.2 q (ne-eq end q ne))) in (
+            kept,
+            subst (λ l. IsGrowth sources c.args.self.now.end next.interval.upto l) (sym (intervals-push run next))
+                grown,
+          );
+      holds = λ of h.
+          let (now, all) = c.loop-next.invariant.holds of h in
+          let holds = g.K.Content.holds of in (
+            held-less holds old new end now (λ q ne. updates.2 q (ne-eq end q ne)) updates.1,
+            All-push (λ p. holds p.interval p.content) run next all (now end next (sym c.in-Some.ensures.value)),
+          );
+    })
 
-pub returns : goal.returns
-returns c =
-    let end = c.loop-next.self.end in record {
-      stands = λ sources h within covered.
-          let (now, growth) = c.loop-next.invariant sources h in
-          let kept = kept-unchanged end sources c.loop-next.self.kept c.remove.new.self c.in_default.ensures.unchanged
-          now in
-          record {
-            run = longest-run sources c.remove.new.self end kept c.in_default.ensures.updates.1
-                (growth-within sources c.args.self.now.end end c.loop-next.run.items growth within)
-                (covered-more sources c.args.self.now.end end c.loop-next.run.items growth covered);
-            kept = kept;
-          };
-      growth = λ sources h. (c.loop-next.invariant sources h).1;
+pub returns-clause-stands : goal.returns-clause-stands
+returns-clause-stands g c = λ sources h within covered.
+    let end = c.loop-next.self.end in
+    let old = c.loop-next.self.kept in
+    let new = c.remove.new.self in
+    let run = intervals c.loop-next.run.items in
+    let (now, growth) = c.loop-next.invariant.flow sources h in
+    let kept = kept-unchanged end sources (kept_at old) (kept_at new)
+    (λ k. rw c.in_default.ensures.unchanged refl) now in
+    record {
+      run = longest-run sources (kept_at new) end kept (kept-is new end None c.in_default.ensures.updates.1)
+          (growth-within sources c.args.self.now.end end run growth within)
+          (covered-more sources c.args.self.now.end end run growth covered);
+      kept = kept;
     }
