@@ -1,4 +1,4 @@
--- Frames that a later record completes follow all others in capture order.
+-- Frames that a record completes follow all earlier ones in capture order.
 use Rattle.std.proofs.Common.{◌≡◌, ℕ, ◌+◌, ◌<◌, Bool, true, false, List, [], ◌∷◌, ◌++◌, length, refl, ap, sym, ◌∙◌}
 use Rattle.std.proofs.Common.{arith, length-append}
 use Rattle.std.proofs.lemmas.List.{append_assoc}
@@ -15,12 +15,15 @@ later-after x y lt = grind (arith, nat_tests)
 earlier-not : (x y : SideFrame) → x.frame.rec < y.frame.rec → comes_after x y ≡ false
 earlier-not x y lt = grind (arith, nat_tests)
 
--- one that comes after none of the last frames goes where it went without them
-put-front : (x : SideFrame) (xs more : List SideFrame) → All (λ (y : SideFrame). x.frame.rec < y.frame.rec) more
+-- a frame that comes after none of these
+abbrev pub IsBeforeAll : List SideFrame → SideFrame → Type 0
+IsBeforeAll more x = All (λ (y : SideFrame). comes_after x y ≡ false) more
+
+-- goes where it went without them, if they are last
+put-front : (x : SideFrame) (xs more : List SideFrame) → IsBeforeAll more x
     → put_by comes_after x (xs ++ more) ≡ put_by comes_after x xs ++ more
 put-front x [] [] h = refl
-put-front x [] (y ∷ more) h =
-    rw (earlier-not x y (All-head (λ (z : SideFrame). x.frame.rec < z.frame.rec) y more h)) refl
+put-front x [] (y ∷ more) h = rw (All-head (λ (z : SideFrame). comes_after x z ≡ false) y more h) refl
 put-front x (z ∷ xs) more h = by (comes_after x z) (put-front x xs more h)
   where
     by : (b : Bool) → put_by comes_after x (xs ++ more) ≡ put_by comes_after x xs ++ more
@@ -61,7 +64,7 @@ put-length x (y ∷ xs) = by (comes_after x y) (put-length x xs)
     by true e = omega (arith, e)
     by false e = omega arith
 
-ordered-length : (xs : List SideFrame) → length (ordered_by comes_after xs) ≡ length xs
+pub ordered-length : (xs : List SideFrame) → length (ordered_by comes_after xs) ≡ length xs
 ordered-length [] = refl
 ordered-length (x ∷ xs) = omega (arith, put-length x (ordered_by comes_after xs), ordered-length xs)
 
@@ -74,26 +77,30 @@ numbered-append n (x ∷ xs) ys =
     (numbered-append (n + 1) xs ys ∙ ap (λ m. numbered (n + 1) xs ++ numbered m ys) count)
 
 module _ (rec : ℕ) (more : List SideFrame) (there : AreThereWith rec more) where
-  -- of later records than this frame's
-  after : (x : SideFrame) → x.frame.rec < rec → All (λ (y : SideFrame). x.frame.rec < y.frame.rec) more
-  after x lt = by more there.arrive
+  -- a frame of an earlier record
+  earlier : (x : SideFrame) → x.frame.rec < rec → IsBeforeAll more x
+  earlier x lt = by more there.arrive
     where
-      by : (ys : List SideFrame) → All (λ (y : SideFrame). y.frame.rec ≡ rec) ys
-          → All (λ (y : SideFrame). x.frame.rec < y.frame.rec) ys
+      by : (ys : List SideFrame) → All (λ (y : SideFrame). y.frame.rec ≡ rec) ys → IsBeforeAll ys x
       by [] h = All-nil _
       by (y ∷ ys) h =
           let is = All-head (λ (z : SideFrame). z.frame.rec ≡ rec) y ys h in
-          All-cons (λ (z : SideFrame). x.frame.rec < z.frame.rec) y ys (omega (arith, is, lt))
+          All-cons (λ (z : SideFrame). comes_after x z ≡ false) y ys (earlier-not x y (omega (arith, is, lt)))
           (by ys (All-tail (λ (z : SideFrame). z.frame.rec ≡ rec) y ys h))
 
+  pub all_earlier : (xs : List SideFrame) → AreBefore rec xs → All (IsBeforeAll more) xs
+  all_earlier [] h = All-nil _
+  all_earlier (x ∷ xs) h =
+      All-cons (IsBeforeAll more) x xs (earlier x (All-head (λ (z : SideFrame). z.frame.rec < rec) x xs h))
+      (all_earlier xs (All-tail (λ (z : SideFrame). z.frame.rec < rec) x xs h))
+
   -- behind others they stay behind them
-  ordered-end : (xs : List SideFrame) → AreBefore rec xs
+  ordered-end : (xs : List SideFrame) → All (IsBeforeAll more) xs
       → ordered_by comes_after (xs ++ more) ≡ ordered_by comes_after xs ++ more
   ordered-end [] h = there.in_order
   ordered-end (x ∷ xs) h =
-      ap (put_by comes_after x) (ordered-end xs (All-tail (λ (z : SideFrame). z.frame.rec < rec) x xs h))
-      ∙ put-front x (ordered_by comes_after xs) more
-      (after x (All-head (λ (z : SideFrame). z.frame.rec < rec) x xs h))
+      ap (put_by comes_after x) (ordered-end xs (All-tail (IsBeforeAll more) x xs h))
+      ∙ put-front x (ordered_by comes_after xs) more (All-head (IsBeforeAll more) x xs h)
 
   -- and before others they go behind them
   ordered-start : (ys server : List SideFrame) → All (λ (y : SideFrame). y.frame.rec ≡ rec) ys → AreBefore rec server
@@ -106,15 +113,13 @@ module _ (rec : ℕ) (more : List SideFrame) (there : AreThereWith rec more) whe
       (ordered-start ys server (All-tail (λ (z : SideFrame). z.frame.rec ≡ rec) y ys h) b)
       ∙ put-past y (ordered_by comes_after server) (ordered_by comes_after ys) below
 
-  ordered-middle : (client server : List SideFrame) → AreBefore rec client → AreBefore rec server
+  ordered-middle : (client server : List SideFrame) → All (IsBeforeAll more) client → AreBefore rec server
       → ordered_by comes_after ((client ++ more) ++ server) ≡ ordered_by comes_after (client ++ server) ++ more
   ordered-middle [] server h b =
       ordered-start more server there.arrive b ∙ ap (λ l. ordered_by comes_after server ++ l) there.in_order
   ordered-middle (x ∷ client) server h b =
-      ap (put_by comes_after x)
-      (ordered-middle client server (All-tail (λ (z : SideFrame). z.frame.rec < rec) x client h) b)
-      ∙ put-front x (ordered_by comes_after (client ++ server)) more
-      (after x (All-head (λ (z : SideFrame). z.frame.rec < rec) x client h))
+      ap (put_by comes_after x) (ordered-middle client server (All-tail (IsBeforeAll more) x client h) b)
+      ∙ put-front x (ordered_by comes_after (client ++ server)) more (All-head (IsBeforeAll more) x client h)
 
   numbers : (client server : List SideFrame)
       → numbered 1 (ordered_by comes_after (client ++ server) ++ more)
@@ -125,16 +130,30 @@ module _ (rec : ℕ) (more : List SideFrame) (there : AreThereWith rec more) whe
       numbered-append 1 (ordered_by comes_after (client ++ server)) more
       ∙ ap (λ m. capture_order client server ++ numbered m more) count
 
-All-append : (P : SideFrame → Type 0) (xs ys : List SideFrame) → All P xs → All P ys → All P (xs ++ ys)
-All-append P [] ys h k = k
-All-append P (x ∷ xs) ys h k =
-    All-cons P x (xs ++ ys) (All-head P x xs h) (All-append P xs ys (All-tail P x xs h) k)
+  -- the client sent them
+  pub client-grows : (client server : List SideFrame) → All (IsBeforeAll more) client → AreBefore rec server
+      → capture_order (client ++ more) server
+      ≡ capture_order client server ++ numbered (1 + (length client + length server)) more
+  client-grows client server h b = ap (numbered 1) (ordered-middle client server h b) ∙ numbers client server
+
+  -- the server did
+  pub server-grows : (client server : List SideFrame) → AreBefore rec client → All (IsBeforeAll more) server
+      → capture_order client (server ++ more)
+      ≡ capture_order client server ++ numbered (1 + (length client + length server)) more
+  server-grows client server b h =
+      ap (λ l. numbered 1 (ordered_by comes_after l)) (sym (append_assoc client server more))
+      ∙ ap (numbered 1) (ordered-end (client ++ server) (All-append client server (all_earlier client b) h))
+      ∙ numbers client server
+    where
+      All-append : (xs ys : List SideFrame) → All (IsBeforeAll more) xs → All (IsBeforeAll more) ys
+          → All (IsBeforeAll more) (xs ++ ys)
+      All-append [] ys h k = k
+      All-append (x ∷ xs) ys h k =
+          All-cons (IsBeforeAll more) x (xs ++ ys) (All-head (IsBeforeAll more) x xs h)
+          (All-append xs ys (All-tail (IsBeforeAll more) x xs h) k)
 
 pub capture-order-grows : CaptureOrderGrows
 capture-order-grows rec client server more c s there = (
-  ap (numbered 1) (ordered-middle rec more there client server c s) ∙ numbers rec more there client server,
-  ap (λ l. numbered 1 (ordered_by comes_after l)) (sym (append_assoc client server more))
-      ∙ ap (numbered 1) (ordered-end rec more there (client ++ server)
-      (All-append (λ (x : SideFrame). x.frame.rec < rec) client server c s))
-      ∙ numbers rec more there client server,
+  client-grows rec more there client server (all_earlier rec more there client c) s,
+  server-grows rec more there client server c (all_earlier rec more there server s),
 )

@@ -1,4 +1,5 @@
 mod Words
+mod Fronts
 mod Promised
 mod SettingsRead
 mod SettingsRanges
@@ -11,4 +12,13 @@ mod BothSides
 mod Walking
 mod Splitting
 mod Batching
+mod Cutters
+mod Feeding
+mod Arising
+mod Following
+mod Greetings
+mod Connecting
+mod Growths
+mod Endings
+mod Handing
 pub mod Uniqueness

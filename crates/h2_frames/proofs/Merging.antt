@@ -40,7 +40,7 @@ rest_ascending x [] h = tt
 rest_ascending x (y ∷ ys) h = h.1
 
 -- frames in order stay as they are
-ordered-ascending : (xs : List SideFrame) → IsAscending xs → ordered_by comes_after xs ≡ xs
+pub ordered-ascending : (xs : List SideFrame) → IsAscending xs → ordered_by comes_after xs ≡ xs
 ordered-ascending [] h = refl
 ordered-ascending (x ∷ xs) h =
     ap (put_by comes_after x) (ordered-ascending xs (rest_ascending x xs h)) ∙ put-ascending x xs h
@@ -73,7 +73,8 @@ rec_rises low rec high o p [] rises h k l = absurd (omega arith)
 rec_rises low rec high o p (a ∷ later) rises h k l =
     grind (arith, nat_tests, rec_rises a.upto a.rec high o p later rises.2, rec_above, rises.2)
 
-later_number : (x y : SideFrame) → x.frame.number < y.frame.number → x.frame.rec ≤ y.frame.rec → comes_after x y ≡ false
+pub later_number : (x y : SideFrame) → x.frame.number < y.frame.number → x.frame.rec ≤ y.frame.rec
+    → comes_after x y ≡ false
 later_number x y h k = grind (arith, nat_tests)
 
 -- a side's frames stand in order

@@ -3,6 +3,7 @@ use Rattle.std.proofs.Common.{◌≡◌, ℕ, List, [], ◌∷◌, ◌++◌, len
 use Rattle.std.proofs.Common.{append_assoc, inl, inr}
 use Rattle.std.{specs.declared.alloc.AllocError.AllocError, proofs.lemmas.Bool.false≢true}
 use Rattle.std.proofs.lemmas.List.{append_cancel_left, take_at, drop_at}
+use Rattle.h2_frames.proofs.Fronts.{header_of-append}
 use Rattle.h2_frames.proofs.Words.{Result, Ok, Err, Cut, Flow, Frame, Sides, Http2, NotHttp2, NoPreface, NoHandshake}
 use Rattle.h2_frames.proofs.Words.{Header, Spelled, header_of, HoldsNoFrame, Makes, Spells, preface, IsPrefaceCutShort}
 use Rattle.h2_frames.proofs.Words.{BeginsWithPreface, IsCut, IsHttp2, SpellingIsUnique, IsSameFlow, CutIsUnique}
@@ -14,11 +15,6 @@ same_parts a b x y e h = (
   sym (take_at a x (length b) h) ∙ ap (take (length b)) e ∙ take_at b y (length b) refl,
   sym (drop_at a x (length b) h) ∙ ap (drop (length b)) e ∙ drop_at b y (length b) refl,
 )
-
--- a header is read from its own nine bytes, whatever follows
-header_of-append : (header later : List ℕ) → length header ≡ 9 → header_of (header ++ later) ≡ header_of header
-header_of-append (a ∷ b ∷ c ∷ d ∷ e ∷ f ∷ g ∷ h ∷ i ∷ []) later nine = refl
-header_of-append _ later nine = absurd (omega arith)
 
 -- a frame that bytes begin with, and what follows it
 record BeginWith (bytes : List ℕ) (frame : Spelled) (rest : List ℕ) : Type 0 where
@@ -32,7 +28,8 @@ header_is : (bytes : List ℕ) (frame : Spelled) (rest : List ℕ) → BeginWith
     → header_of bytes ≡ frame.header
 header_is bytes frame rest first =
     ap header_of (first.split ∙ append_assoc first.header first.payload rest)
-    ∙ header_of-append first.header (first.payload ++ rest) first.makes.nine ∙ sym first.makes.header_is
+    ∙ header_of-append first.header (first.payload ++ rest) (omega (arith, first.makes.nine))
+    ∙ sym first.makes.header_is
 
 -- bytes that hold no whole frame begin with none
 holds_none : (bytes : List ℕ) (frame : Spelled) (rest : List ℕ) → HoldsNoFrame bytes → BeginWith bytes frame rest → ⊥
@@ -76,10 +73,13 @@ spelling-unique bytes (f ∷ frames) (g ∷ others) tail other_tail first second
     (cc (same.0, later.0), later.1)
 
 -- no bytes are a part of the preface and begin with all of it
-not_both : (bytes rest : List ℕ) → IsPrefaceCutShort bytes → BeginsWithPreface bytes rest → ⊥
+pub not_both : (bytes rest : List ℕ) → IsPrefaceCutShort bytes → BeginsWithPreface bytes rest → ⊥
 not_both bytes rest short begins =
     let all = simp length-append at (ap length begins) in
     omega (arith, length-append bytes short.0, ap length short.2, all, short.1)
+
+same_flow : (flow : Flow) → IsSameFlow flow flow
+same_flow flow = record { started = refl; bytes = refl; arrivals = refl }
 
 module _ (client server other_client other_server : Flow) (c : IsSameFlow client other_client)
     (s : IsSameFlow server other_server) where
@@ -115,14 +115,19 @@ pub cut-unique : CutIsUnique
 cut-unique client server other_client other_server cut other c s =
     same_cuts client server other_client other_server c s cut other
 
+-- two flows are spelled by no other frames
+pub one_http2 : (client server : Flow) (frames others : List Frame) (tails other_tails : Sides ℕ)
+    → IsHttp2 client server frames tails → IsHttp2 client server others other_tails
+    → (frames ≡ others) × (tails ≡ other_tails)
+one_http2 client server frames others tails other_tails first second =
+    same_http2 client server client server (same_flow client) (same_flow server) frames others tails other_tails first
+    second
+
 -- two flows have no other cut
 pub only-cut : (client server : Flow) (cut other : Cut) → IsCut client server cut → IsCut client server other
     → IsSameCut cut other
 only-cut client server cut other first second =
-    cut-unique client server client server cut other (same client) (same server) first second
-  where
-    same : (flow : Flow) → IsSameFlow flow flow
-    same flow = record { started = refl; bytes = refl; arrivals = refl }
+    cut-unique client server client server cut other (same_flow client) (same_flow server) first second
 
 -- a cut that is found
 pub found-cut : (client server : Flow) (cut : Cut) → IsCut client server cut → HasOrderlyFrames cut

@@ -5,13 +5,13 @@ use Rattle.h2_frames.proofs.Words.{Flow, Frame, HaveNumbersFrom, IsInRange, IsOr
 use Rattle.h2_frames.proofs.Words.{IsReadyWalk, IsWalkAfter, IsWalkOn, SideFrame, taken_of, weight_of}
 
 -- with one frame more they have their numbers
-numbers_push : (k : ℕ) (frames : List Frame) (f : Frame) → HaveNumbersFrom k frames → f.number ≡ k + length frames →
+pub numbers_push : (k : ℕ) (frames : List Frame) (f : Frame) → HaveNumbersFrom k frames → f.number ≡ k + length frames →
     HaveNumbersFrom k (frames ++ f ∷ [])
 numbers_push k [] f numbers number_is = (omega arith, tt)
 numbers_push k (x ∷ frames) f numbers number_is = (numbers.0, numbers_push (k + 1) frames f numbers.1 (omega arith))
 
 -- and are orderly
-orderly_push : (low k : ℕ) (frames : List Frame) (f : Frame) → IsOrderlyFrom low frames → HaveNumbersFrom k frames →
+pub orderly_push : (low k : ℕ) (frames : List Frame) (f : Frame) → IsOrderlyFrom low frames → HaveNumbersFrom k frames →
     low ≤ k → IsInRange f → f.number ≡ k + length frames → IsOrderlyFrom low (frames ++ f ∷ [])
 orderly_push low k [] f orderly numbers above range number_is = (omega arith, range, tt)
 orderly_push low k (x ∷ frames) f orderly numbers above range number_is =

@@ -9,3 +9,11 @@ pub mod Walk
 pub mod Orderly
 pub mod SameCut
 pub mod Cutting
+pub mod Fed
+pub mod Brought
+pub mod Handed
+pub mod Cutter
+pub mod Greeting
+pub mod Growths
+pub mod Connection
+pub mod ConnectionFrames

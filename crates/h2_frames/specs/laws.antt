@@ -1,2 +1,4 @@
 pub mod Growth
+pub mod Feeding
 pub mod Unique
+pub mod Endings

@@ -1,10 +1,8 @@
 ghost use Rattle.h2_frames.specs.code.Beginning.{IsBeginning};
 ghost use Rattle.h2_frames.specs.code.Pieces.{bytes_left, IsMeasured};
 
+use crate::greeting::{Greeting, PREFACE, greeting_of};
 use crate::pieces::Pieces;
-
-/// The connection preface of a client (RFC 9113, 3.4).
-pub(crate) const PREFACE: [u8; 24] = *b"PRI * HTTP/2.0\r\n\r\nSM\r\n\r\n";
 
 /// How a client's bytes begin.
 pub(crate) enum Beginning<'a> {
@@ -21,12 +19,16 @@ pub(crate) fn beginning_of(bytes: Pieces<'_>) -> Beginning<'_>
     ensures { IsBeginning (bytes_left bytes.entry) result }
 {
     let mut rest = bytes;
-    for expected in &PREFACE {
-        match rest.take_byte() {
-            None => return Beginning::CutShort,
-            Some(byte) if byte != *expected => return Beginning::Other,
-            Some(_) => {}
+    let mut count = 0;
+    'greeting: while 0 < rest.len() {
+        let wanted = PREFACE.len() - count;
+        let front = rest.take_front(wanted.min(rest.len()));
+        let (greeting, _) = greeting_of(count, front);
+        match greeting {
+            Greeting::CutShort(matched) => count = matched,
+            Greeting::Other => return Beginning::Other,
+            Greeting::Whole => return Beginning::Preface(rest),
         }
     }
-    Beginning::Preface(rest)
+    Beginning::CutShort
 }

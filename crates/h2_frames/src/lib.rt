@@ -10,8 +10,9 @@
 //!   `specs/Body.antt` what its payload says, `specs/CaptureOrder.antt` the order, and `specs/Cut.antt` puts them
 //!   together.
 //! - No other answer meets the contract for the same flows (`only` in `specs/code/Cutting.antt`). [`laws`] say so
-//!   without the code: one list of bytes has one spelling, two flows have one cut, and frames that are told record by
-//!   record, as each completes them, are told in capture order.
+//!   without the code: one list of bytes has one spelling, two flows have one cut, frames that are told record by
+//!   record, as each completes them, are told in capture order, and bytes that are fed arrive with the record that
+//!   brings them.
 //! - With several threads it reads long flows in batches, with one frame by frame.
 //! - [`begin`] decides the same, and returns a [`FrameWalk`], an iterator over the frames, in place of a list:
 //!   [`FrameWalk::take_next`] takes the next frame. Its contract holds for whichever flows the walk began with
@@ -23,6 +24,20 @@
 //!   [`Merge::take_next`] takes the frames of a [`FrameBatch`] in capture order (`specs/code/Batch.antt`). That order
 //!   compares record and number first, so all frames up to the limit come before all others. No contract says which
 //!   limit it is, only that at least one frame is up to it.
+//! - [`ConnectionCutter`] cuts frames out of bytes as they come. It is told as a `tcp_streams::GrowthVisitor` by which
+//!   bytes the flow of a side grows, and with which record, and hands each frame that they complete to a
+//!   [`FrameVisitor`], numbered in capture order: a record is of one side, so a frame that is there follows all that
+//!   were there before. [`ConnectionCutter::finish`] says which kind of cut the two flows have. Its contract holds for
+//!   whatever the visitor was handed before (`specs/code/Connection.antt`), so the stage keeps no frame; and of the
+//!   bytes it keeps those alone that begin a frame which is not whole yet: its header, and of its payload what its body
+//!   is read from, which is all of SETTINGS and at most five bytes of any other (`needed` in `specs/code/Steps.antt`).
+//!   Whether the server's number is known, and so whether the connection is HTTP/2, is told at the end: what was handed
+//!   on counts only then.
+//! - [`ConnectionFrames`] goes from segments to frames: behind `tcp_streams::ConnectionFlows` it has such a cutter. It
+//!   takes a connection's segments one by one, with their payloads, and its `finish` says of both flows, as `assemble`
+//!   has them of whatever capture the payloads stand in, which kind of cut they have, and where they end
+//!   (`HasHandedFrames` of `specs/code/ConnectionFrames.antt`). By [`laws::ending_tells_the_cut`] that is the cut which
+//!   [`cut_by`] finds. No report is made by it yet.
 //! - A frame that is numbered within its side has a type of its own (`SideFrame`), and becomes a frame of the
 //!   connection where it gets its number there.
 //! - Frames are orderly, as calls on frames require: numbers rise, streams have 31 bits and lengths 24, times are below
@@ -31,13 +46,15 @@
 //!   2^31 bytes, so frame numbers stay below 2^28 - 1.
 //! - The definition of a spelling is a grammar by cases on the list of frames, and that of the order an insertion sort.
 //!   The code is different: a cursor in each flow reads one frame ahead, and the earlier of the two frames is taken.
-//!   [`cut_by`] is a loop over that, or over batches. A frame in one piece of its flow is read in place; otherwise
-//!   header and payload are first copied into a buffer, except the payload of DATA without padding, which nobody reads.
+//!   [`cut_by`] is a loop over that, or over batches. A frame in one piece of its flow is read in place; otherwise the
+//!   header, and of the payload what its body is read from, are first copied into a buffer. The stage reads bytes in
+//!   place too, and no list is put in order.
 //! - [`worked_examples`] compute bodies, headers and order on small inputs, by proof: each type's payload at the
 //!   lengths where its answer changes, padding, settings at the ends of their ranges.
 //! - The prover refuses: a value out of range left out, an order by first bytes, exchanged tails, batches merged by
 //!   records alone, a batch numbered from one too high, a list that keeps the last batch alone, one tail told
-//!   for both.
+//!   for both, a stage that takes each connection for one with a handshake, passes over segments without payload, takes
+//!   the server for the client or tells one end of both flows, a wrong preface that is waited for.
 //! - Whole reports test that `cut_by` succeeds where there is memory, on connections of each of the four kinds;
 //!   `threads_test.py` tests how many threads batches start.
 #![tactic(auto)]
@@ -45,21 +62,30 @@
 mod batches;
 mod beginning;
 mod bodies;
+mod connection;
+mod connection_frames;
 mod cuts;
+mod cutter;
 mod cutting;
+mod greeting;
 mod headers;
 pub mod laws;
 mod limits;
+mod numbering;
 mod order;
 mod pieces;
 mod settings;
 mod side_frames;
 mod spelling;
 mod unread;
+mod visitor;
 mod walk;
 pub mod worked_examples;
 
 pub use batches::{FrameBatch, Merge};
+pub use connection::{ConnectionCutter, Ending};
+pub use connection_frames::{ConnectionFrames, HandedFrames};
 pub use cuts::Cut;
 pub use cutting::cut_by;
+pub use visitor::FrameVisitor;
 pub use walk::{Begun, FrameWalk, begin};

@@ -3,7 +3,7 @@ ghost use Rattle.tcp_streams.specs.Bytes.{joined};
 ghost use Rattle.h2_frames.specs.Body.{body_of};
 ghost use Rattle.h2_frames.specs.code.Pieces.{bytes_left, IsMeasured, IsFrameTaken, IsTaken};
 
-use crate::bodies::{body_of, is_content};
+use crate::bodies::{body_of_front, needed};
 use crate::headers::{HEADER_LENGTH, Header};
 use crate::spelling::{Spelled, first_frame};
 use audit_terms::Body;
@@ -68,22 +68,8 @@ impl<'a> Pieces<'a> {
         }
     }
 
-    /// Takes the first byte out.
-    pub fn take_byte(&mut self) -> Option<u8>
-        requires { IsMeasured self.old }
-        ensures some { IfSome result (λ byte. bytes_left self.old ≡ byte ∷ bytes_left self.new) }
-        ensures none { IfNone result (length (bytes_left self.old) ≡ 0) }
-        ensures counted { IsMeasured self.new }
-    {
-        self.go_on();
-        let (byte, later) = self.first.split_first()?;
-        self.first = later;
-        self.length -= 1;
-        Some(*byte)
-    }
-
     /// Takes bytes out that lie together, as many as are wanted if the piece has them.
-    fn take_front(&mut self, wanted: usize) -> &'a [u8]
+    pub fn take_front(&mut self, wanted: usize) -> &'a [u8]
         requires counted { IsMeasured self.old }
         requires some { 0 < wanted }
         requires there { wanted ≤ length (bytes_left self.old) }
@@ -128,7 +114,7 @@ impl<'a> Pieces<'a> {
         }
     }
 
-    /// Takes a payload out, and returns what it says.
+    /// Takes a payload out, and returns what it says. No more of it is copied than its body is read from.
     fn take_payload(&mut self, header: Header, gathered: &mut Vec<u8>) -> Result<Body, AllocError>
         requires counted { IsMeasured self.old }
         requires short { header.length < 2 ^ 24 }
@@ -136,14 +122,17 @@ impl<'a> Pieces<'a> {
         ensures { IfOk result (λ body. (payload : List ℕ) × IsTaken header.length self.old self.new payload
             × (body ≡ body_of header.code header.flags payload)) }
     {
-        let length = header.length as usize;
-        if is_content(header.code, header.flags) {
-            self.skip(length);
-            return Ok(Body::Content);
-        }
+        let Header {
+            length,
+            code,
+            flags,
+            ..
+        } = header;
+        let wanted = needed(code, flags, length);
         gathered.clear();
-        self.gather(length, gathered)?;
-        Ok(body_of(header.code, header.flags, gathered.as_slice()))
+        self.gather(wanted as usize, gathered)?;
+        self.skip((length - wanted) as usize);
+        Ok(body_of_front(code, flags, length, gathered))
     }
 
     /// Takes the frame out that the bytes begin with, where they hold the whole of it and it lies in several pieces.

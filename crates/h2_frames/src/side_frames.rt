@@ -1,9 +1,20 @@
 ghost use Rattle.std.specs.Prelude.{◌≡◌, ◌<◌, ◌^◌};
 ghost use Rattle.h2_frames.specs.CaptureOrder.{captured, comes_after};
+ghost use Rattle.h2_frames.specs.code.Brought.{frame_of};
 
 use crate::spelling::Spelled;
 use audit_terms::{Frame, Length, Side};
 use tcp_streams::Arrival;
+
+/// Who sent bytes, and the record that brings them.
+#[derive(Clone, Copy)]
+pub struct Source {
+    pub side: Side,
+    /// The record, from 1.
+    pub rec: u32,
+    /// When it was captured, in nanoseconds.
+    pub nanos: u64,
+}
 
 /// A frame numbered within its side, from 1. It is no [`Frame`] before it has its number in the connection.
 #[derive(Clone, Copy)]
@@ -46,23 +57,36 @@ impl SideFrame {
 }
 
 impl Spelled {
+    /// The frame of this number that the last byte which a source brings completes.
+    pub(crate) fn brought(self, source: Source, number: u32) -> Frame
+        requires { self.header.length < 2 ^ 24 }
+        ensures { result ≡ frame_of source number self }
+    {
+        Frame {
+            number,
+            rec: source.rec,
+            stream: self.header.stream,
+            length: Length::of(self.header.length),
+            nanos: source.nanos,
+            body: self.body,
+            side: source.side,
+            code: self.header.code,
+            flags: self.header.flags,
+        }
+    }
+
     /// The frame as a side sent it and as it was captured, with its number within the side.
     pub(crate) fn captured(self, side: Side, number: u32, arrival: Arrival) -> SideFrame
         requires { self.header.length < 2 ^ 24 }
         ensures { result ≡ captured side number arrival self }
     {
+        let source = Source {
+            side,
+            rec: arrival.rec,
+            nanos: arrival.nanos,
+        };
         SideFrame {
-            frame: Frame {
-                number,
-                rec: arrival.rec,
-                stream: self.header.stream,
-                length: Length::of(self.header.length),
-                nanos: arrival.nanos,
-                body: self.body,
-                side,
-                code: self.header.code,
-                flags: self.header.flags,
-            },
+            frame: self.brought(source, number),
         }
     }
 }

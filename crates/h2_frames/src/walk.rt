@@ -14,7 +14,8 @@ ghost use Rattle.h2_frames.specs.code.Walk.{IsBegun, IsReadyWalk, IsWalkAfter, I
 ghost use Rattle.h2_frames.specs.code.Walk.{taken_of, tails_of, weight_of};
 
 use crate::batches::{FrameBatch, take_side_by_side};
-use crate::beginning::{Beginning, PREFACE, beginning_of};
+use crate::beginning::{Beginning, beginning_of};
+use crate::greeting::PREFACE;
 use crate::limits::{Limit, limit_of};
 use crate::order::take_first;
 use crate::pieces::Pieces;
