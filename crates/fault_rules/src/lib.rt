@@ -10,7 +10,7 @@
 //! - The first three give exactly what the definitions of `audit_terms` say of one frame (`local_said`,
 //!   `connection_said`, `stream_said`). The plain pass and the rounds call them: both say each rule by the same code,
 //!   and differ only in how they walk. Faster paths that only tell that nothing is shown have bodies of their own
-//!   (docs/RULES_IN_CODE.md). A step with a change has an acknowledgement for its frame (`IsAcknowledged`), so one
+//!   (docs/ARCHITECTURE.md). A step with a change has an acknowledgement for its frame (`IsAcknowledged`), so one
 //!   thing alone moves a window at a step: content, a grant, or a difference of initial windows. Each is below 2^32, so
 //!   credits stay below 2^60 over the fewer than 2^28 frames of a connection, and no sum wraps; that bound is
 //!   bookkeeping of code (`Room` of `audit_terms`).

@@ -11,11 +11,11 @@ use Rattle.stream_credit.proofs.Words.{cases_Bool, cases_eq, eq-eqb, eqb-true, n
 use Rattle.stream_credit.proofs.Words.{AllByRecursion, Change, Finding, Sides, Step, Stream, flat_map, flat_map-append}
 use Rattle.stream_credit.proofs.Words.{idle_stream, initial_after, shown, stream_after, stream_said}
 use Rattle.stream_credit.proofs.Words.{◌+◌, drop, length}
-use Rattle.quiet_pass.proofs.StreamLemmas.{step-alone, streams-same, unmoved-entry}
+use Rattle.quiet_pass.proofs.StreamLemmas.{of-rows, rows-of, step-alone, streams-same, unmoved-entry}
 use Rattle.quiet_pass.specs.code.HeldStreams.{held}
 use Rattle.quiet_pass.specs.code.Rows.{AreRisingFrom, AreRowsSaid, AreStepped, IsRowMoved, IsRowOfParity, IsRowSaid}
 use Rattle.quiet_pass.specs.code.Rows.{entry_in, row_said}
-use Rattle.quiet_pass.specs.code.Streams.{AreStreams, IsChangeSaid}
+use Rattle.quiet_pass.specs.code.Streams.{AreRowsOf, AreStreams, IsChangeSaid}
 use Rattle.quiet_pass.specs.declared.kept_streams.Streams.{Streams}
 use Rattle.quiet_pass.specs.declared.opened_rows.Row.{Row}
 
@@ -100,93 +100,133 @@ module _ (initial : Sides ℕ) (step : Step) (alone : step.frame ≡ None) where
   rising-stepped low (one ∷ old) (two ∷ new) m h = rw m.0.same (h.0, rising-stepped one.stream old new m.1 h.1)
   rising-stepped low _ _ m h = absurd m
 
-  rows-said : (remainder low : ℕ) (rows : List Row) (streams : ℕ → Stream) → AreRisingFrom low rows
-      → AllByRecursion (IsRowOfParity remainder) rows
-      → ((s : ℕ) → low < s → s % 2 ≡ remainder → streams s ≡ entry_in rows s)
-      → flat_map (row_said initial step) rows
-      ≡ flat_map (λ s. stream_said s initial (streams s) step) (named_in rows)
-  rows-said remainder low [] streams h own is = refl
-  rows-said remainder low (row ∷ rows) streams h own is =
-      let here : streams row.stream ≡ held row.standings =
-      is row.stream h.0 own.0.parity ∙ rw (eq-eqb row.stream row.stream refl) refl in
-      ap₂ (λ (a b : List Finding). a ++ b)
-      (ap (λ (entry : Stream). stream_said row.stream initial entry step) (sym here))
-      (rows-said remainder row.stream rows streams h.1 own.1
-      (λ s above p. is s (omega (arith, above, h.0)) p
-      ∙ rw (ne_eqb row.stream s (λ e. absurd (omega (arith, above, e)))) refl))
+  -- what the step shows of the streams of which rows hold this, or this raised
+  module _ (raise : Stream → Stream) (idle : raise idle_stream ≡ idle_stream) where
+    abbrev said-of : Row → List Finding
+    said-of row = stream_said row.stream initial (raise (held row.standings)) step
 
-  -- the whole of it
-  pub change-said : {odd even : Bool} {old new : Streams} {before mid after : List Finding}
-      → AreRowsSaid 1 initial step odd old.opened.items new.opened.items before mid
+    rows-said : (remainder low : ℕ) (rows : List Row) (streams : ℕ → Stream) → AreRisingFrom low rows
+        → AllByRecursion (IsRowOfParity remainder) rows
+        → ((s : ℕ) → low < s → s % 2 ≡ remainder → streams s ≡ raise (entry_in rows s))
+        → flat_map said-of rows ≡ flat_map (λ s. stream_said s initial (streams s) step) (named_in rows)
+    rows-said remainder low [] streams h own is = refl
+    rows-said remainder low (row ∷ rows) streams h own is =
+        let here : streams row.stream ≡ raise (held row.standings) =
+        is row.stream h.0 own.0.parity ∙ rw (eq-eqb row.stream row.stream refl) refl in
+        ap₂ (λ (a b : List Finding). a ++ b)
+        (ap (λ (entry : Stream). stream_said row.stream initial entry step) (sym here))
+        (rows-said remainder row.stream rows streams h.1 own.1
+        (λ s above p. is s (omega (arith, above, h.0)) p
+        ∙ rw (ne_eqb row.stream s (λ e. absurd (omega (arith, above, e)))) refl))
+
+    -- the rows, and what was added of them
+    pub record AreRaised (old : Streams) (before after : List Finding) (streams : ℕ → Stream) : Type 0 where
+      pub base : ℕ → Stream
+      pub rows : AreRowsOf base old
+      pub is : (s : ℕ) → 0 < s → streams s ≡ raise (base s)
+      pub odd : AllByRecursion (IsRowOfParity 1) old.opened.items
+      pub even : AllByRecursion (IsRowOfParity 0) old.promised.items
+      pub mid : List Finding
+      pub one : shown false mid ≡ shown false before ++ shown false (flat_map said-of old.opened.items)
+      pub two : shown false after ≡ shown false mid ++ shown false (flat_map said-of old.promised.items)
+
+    unnamed : (old : Streams) {before after : List Finding} (streams : ℕ → Stream)
+        → AreRaised old before after streams → (s : ℕ) → 0 < s
+        → list_any (λ n. n == s) (named_in old.opened.items) ≡ false
+        → list_any (λ n. n == s) (named_in old.promised.items) ≡ false → streams s ≡ idle_stream
+    unnamed old streams r s above p q =
+        let base-is : r.base s ≡ idle_stream = elim (cases_eq (s % 2) 1) [
+          | inl odd ↦ r.rows.odd s odd ∙ missing-idle s old.opened.items p
+          | inr other ↦ r.rows.even s (omega (arith, other)) above ∙ missing-idle s old.promised.items q
+        ] in r.is s above ∙ ap raise base-is ∙ idle
+
+    all-said : (old : Streams) {before after : List Finding} (streams : ℕ → Stream)
+        → AreRaised old before after streams
+        → shown false after ≡ shown false before
+        ++ shown false (flat_map (λ s. stream_said s initial (streams s) step)
+        (named_in old.opened.items ++ named_in old.promised.items))
+    all-said old {before} streams r =
+        let rule = λ (s : ℕ). stream_said s initial (streams s) step in
+        let one = flat_map said-of old.opened.items in
+        let two = flat_map said-of old.promised.items in
+        r.two ∙ ap (λ l. l ++ shown false two) r.one
+        ∙ append_assoc (shown false before) (shown false one) (shown false two)
+        ∙ ap (λ l. shown false before ++ l)
+        (sym (shown-append false one two)
+        ∙ ap (shown false)
+        (ap₂ (λ (a b : List Finding). a ++ b)
+        (rows-said 1 0 old.opened.items streams r.rows.opened r.odd
+        (λ s above p. r.is s above ∙ ap raise (r.rows.odd s p)))
+        (rows-said 0 0 old.promised.items streams r.rows.promised r.even
+        (λ s above p. r.is s above ∙ ap raise (r.rows.even s p above)))
+        ∙ sym (flat_map-append rule (named_in old.opened.items) (named_in old.promised.items))))
+
+    -- the whole of it
+    pub said-by : {kept : Bool} {old new : Streams} {before after : List Finding}
+        → ((streams : ℕ → Stream) → AreStreams streams old → AreRaised old before after streams)
+        → (kept ≡ true → (streams : ℕ → Stream) → AreStreams streams old
+        → AreStreams (λ s. stream_after s initial (streams s) step) new)
+        → IsChangeSaid initial step kept old new before after
+    said-by {kept} {old} {new} all met =
+        let one = named_in old.opened.items in
+        let two = named_in old.promised.items in record {
+          some = one ++ two;
+          small = λ streams h. each-append (λ (s : ℕ). s < 2 ^ 31) one two
+              (each-named (λ s. s < 2 ^ 31) old.opened.items
+              (each-weaker (IsRowOfParity 1) (λ (row : Row). row.stream < 2 ^ 31) (λ row h. h.small) old.opened.items
+              (all streams h).odd))
+              (each-named (λ s. s < 2 ^ 31) old.promised.items
+              (each-weaker (IsRowOfParity 0) (λ (row : Row). row.stream < 2 ^ 31) (λ row h. h.small)
+              old.promised.items (all streams h).even));
+          said = λ streams h. all-said old streams (all streams h);
+          named = λ streams h. each-append (λ (s : ℕ). 0 < s) one two
+              (each-above 0 old.opened.items (all streams h).rows.opened)
+              (each-above 0 old.promised.items (all streams h).rows.promised);
+          once = λ streams h. distinct-both one two (distinct-in 0 old.opened.items (all streams h).rows.opened)
+              (distinct-in 0 old.promised.items (all streams h).rows.promised)
+              (each-named (λ s. s % 2 ≡ 1) old.opened.items
+              (each-weaker (IsRowOfParity 1) (λ (row : Row). row.stream % 2 ≡ 1) (λ row h. h.parity) old.opened.items
+              (all streams h).odd))
+              (each-named (λ s. s % 2 ≡ 0) old.promised.items
+              (each-weaker (IsRowOfParity 0) (λ (row : Row). row.stream % 2 ≡ 0) (λ row h. h.parity)
+              old.promised.items (all streams h).even));
+          others = λ streams h other above none.
+              let parts = none-both (λ n. n == other) one two none in
+              ap (λ (entry : Stream). shown false (stream_said other initial entry step))
+              (unnamed old streams (all streams h) other above parts.0 parts.1) ∙ ap (shown false) (idle-said other);
+          met = met;
+        }
+
+  -- where rows hold all of the streams
+  pub change-said : {odd even : Bool} {old new : Streams} {before mid after : List Finding} → old.shifted ≡ None
+      → new.shifted ≡ None → AreRowsSaid 1 initial step odd old.opened.items new.opened.items before mid
       → AreRowsSaid 0 initial step even old.promised.items new.promised.items mid after
       → IsChangeSaid initial step (odd && even) old new before after
-  change-said {odd} {even} {old} {new} {before} {mid} {after} o e =
-      let one = named_in old.opened.items in
-      let two = named_in old.promised.items in record {
-        some = one ++ two;
-        small = each-append (λ (s : ℕ). s < 2 ^ 31) one two
-            (each-named (λ s. s < 2 ^ 31) old.opened.items
-            (each-weaker (IsRowOfParity 1) (λ (row : Row). row.stream < 2 ^ 31) (λ row h. h.small) old.opened.items
-            o.own))
-            (each-named (λ s. s < 2 ^ 31) old.promised.items
-            (each-weaker (IsRowOfParity 0) (λ (row : Row). row.stream < 2 ^ 31) (λ row h. h.small) old.promised.items
-            e.own));
-        said = λ streams h. all-said old new o e streams h;
-        named = λ streams h. each-append (λ (s : ℕ). 0 < s) one two (each-above 0 old.opened.items h.opened)
-            (each-above 0 old.promised.items h.promised);
-        once = λ streams h. distinct-both one two (distinct-in 0 old.opened.items h.opened)
-            (distinct-in 0 old.promised.items h.promised)
-            (each-named (λ s. s % 2 ≡ 1) old.opened.items
-            (each-weaker (IsRowOfParity 1) (λ (row : Row). row.stream % 2 ≡ 1) (λ row h. h.parity) old.opened.items
-            o.own))
-            (each-named (λ s. s % 2 ≡ 0) old.promised.items
-            (each-weaker (IsRowOfParity 0) (λ (row : Row). row.stream % 2 ≡ 0) (λ row h. h.parity) old.promised.items
-            e.own));
-        others = λ streams h other above none.
-            let parts = none-both (λ n. n == other) one two none in
-            ap (λ (entry : Stream). shown false (stream_said other initial entry step))
-            (unnamed old streams h other above parts.0 parts.1) ∙ ap (shown false) (idle-said other);
-        met = λ k streams h.
-            let both = both-kept odd even k in record {
-              odd = λ s p.
-                  ap (λ (entry : Stream). stream_after s initial entry step) (h.odd s p)
-                  ∙ entries-stepped old.opened.items new.opened.items s (o.stepped both.0);
-              even = λ s p above.
-                  ap (λ (entry : Stream). stream_after s initial entry step) (h.even s p above)
-                  ∙ entries-stepped old.promised.items new.promised.items s (e.stepped both.1);
-              opened = rising-stepped 0 old.opened.items new.opened.items (o.stepped both.0) h.opened;
-              promised = rising-stepped 0 old.promised.items new.promised.items (e.stepped both.1) h.promised;
-            };
-      }
-    where
-      unnamed : (old : Streams) (streams : ℕ → Stream) → AreStreams streams old → (s : ℕ) → 0 < s
-          → list_any (λ n. n == s) (named_in old.opened.items) ≡ false
-          → list_any (λ n. n == s) (named_in old.promised.items) ≡ false → streams s ≡ idle_stream
-      unnamed old streams h s above p q = elim (cases_eq (s % 2) 1) [
-        | inl odd ↦ h.odd s odd ∙ missing-idle s old.opened.items p
-        | inr other ↦ h.even s (omega (arith, other)) above ∙ missing-idle s old.promised.items q
-      ]
-
-      all-said : {odd even : Bool} (old new : Streams) {before mid after : List Finding}
-          → AreRowsSaid 1 initial step odd old.opened.items new.opened.items before mid
-          → AreRowsSaid 0 initial step even old.promised.items new.promised.items mid after
-          → (streams : ℕ → Stream) → AreStreams streams old
-          → shown false after ≡ shown false before
-          ++ shown false (flat_map (λ s. stream_said s initial (streams s) step)
-          (named_in old.opened.items ++ named_in old.promised.items))
-      all-said {odd} {even} old new {before} o e streams h =
-          let rule = λ (s : ℕ). stream_said s initial (streams s) step in
-          let one = flat_map (row_said initial step) old.opened.items in
-          let two = flat_map (row_said initial step) old.promised.items in
-          e.said ∙ ap (λ l. l ++ shown false two) o.said
-          ∙ append_assoc (shown false before) (shown false one) (shown false two)
-          ∙ ap (λ l. shown false before ++ l)
-          (sym (shown-append false one two)
-          ∙ ap (shown false)
-          (ap₂ (λ (a b : List Finding). a ++ b)
-          (rows-said 1 0 old.opened.items streams h.opened o.own (λ s above p. h.odd s p))
-          (rows-said 0 0 old.promised.items streams h.promised e.own (λ s above p. h.even s p above))
-          ∙ sym (flat_map-append rule (named_in old.opened.items) (named_in old.promised.items))))
+  change-said {odd} {even} {old} {new} {before} {mid} {after} none still o e =
+      said-by (λ entry. entry) refl
+      (λ streams h. record {
+        base = streams;
+        rows = rows-of streams old none h;
+        is = λ s above. refl;
+        odd = o.own;
+        even = e.own;
+        mid = mid;
+        one = o.said;
+        two = e.said;
+      })
+      (λ k streams all.
+      let both = both-kept odd even k in
+      let h = rows-of streams old none all in
+      of-rows (λ s. stream_after s initial (streams s) step) new still (record {
+        odd = λ s p.
+            ap (λ (entry : Stream). stream_after s initial entry step) (h.odd s p)
+            ∙ entries-stepped old.opened.items new.opened.items s (o.stepped both.0);
+        even = λ s p above.
+            ap (λ (entry : Stream). stream_after s initial entry step) (h.even s p above)
+            ∙ entries-stepped old.promised.items new.promised.items s (e.stepped both.1);
+        opened = rising-stepped 0 old.opened.items new.opened.items (o.stepped both.0) h.opened;
+        promised = rising-stepped 0 old.promised.items new.promised.items (e.stepped both.1) h.promised;
+      }))
 
 -- ---- a change that moves no window
 
@@ -198,7 +238,7 @@ quiet-said initial number change kept found is =
     let still = λ (s : ℕ) (entry : Stream).
     step-alone s initial initial number change entry entry (unmoved-entry initial entry) is in record {
       some = [];
-      small = tt;
+      small = λ streams h. tt;
       said = λ streams h. sym (append-nil (shown false found));
       named = λ streams h. tt;
       once = λ streams h. tt;

@@ -4,6 +4,7 @@ use Rattle.std.proofs.Common.{◌≢◌, ◌≤◌, find}
 use Rattle.audit_core.specs.laws.Apart.{EachPair}
 use Rattle.audit_core.specs.laws.Streams.{StreamsAreNamedOnce, StreamsAreThoseMet}
 use Rattle.audit_terms.proofs.FindingLists.{each-append, each-weaker}
+use Rattle.audit_terms.proofs.OrderlyFrames.{orderly-earlier}
 use Rattle.audit_terms.proofs.ShownFindings.{shown-append}
 use Rattle.audit_terms.proofs.UptoStop.{upto_stop-shown}
 use Rattle.audit_terms.specs.Finding.{stops}
@@ -17,7 +18,7 @@ use Rattle.quiet_pass.specs.code.FoundConnections.{IsNamedAlike}
 use Rattle.quiet_pass.specs.code.FoundPass.{AreBelow, AreFramesKept, HasSaid, HaveAllMet, IsFoundAfter, IsFrameKept}
 use Rattle.quiet_pass.specs.code.FoundPass.{named_with, IsAdded}
 use Rattle.quiet_pass.specs.code.QuietPass.{IsQuietStep}
-use Rattle.quiet_pass.specs.code.SaidFrames.{HaveOwn}
+use Rattle.quiet_pass.specs.code.SaidFrames.{HaveOwn, IsSaidStep}
 use Rattle.quiet_pass.specs.declared.found_passes.FoundPass.{FoundPass}
 use Rattle.stream_credit.proofs.QuietSteps.{none-shown}
 use Rattle.stream_credit.proofs.Words.{◌≡◌, ℕ, ◌+◌, ◌<◌, ◌==◌, Bool, true, false, List, [], ◌∷◌, ◌++◌, Some, Option}
@@ -113,11 +114,6 @@ orderly-least : (low : ℕ) (frames : List Frame) (frame : Frame) → IsOrderlyF
 orderly-least low [] frame h = h.0
 orderly-least low (one ∷ frames) frame h = omega (arith, h.0, orderly-least (one.number + 1) frames frame h.2)
 
-orderly-front : (low : ℕ) (frames : List Frame) (frame : Frame) → IsOrderlyFrom low (frames ++ frame ∷ [])
-    → IsOrderlyFrom low frames
-orderly-front low [] frame h = tt
-orderly-front low (one ∷ frames) frame h = (h.0, h.1, orderly-front (one.number + 1) frames frame h.2)
-
 orderly-below : (low : ℕ) (frames : List Frame) (frame : Frame) → IsOrderlyFrom low (frames ++ frame ∷ [])
     → AreBelow frame.number frames
 orderly-below low [] frame h = tt
@@ -128,6 +124,21 @@ orderly-range : (low : ℕ) (frames : List Frame) (frame : Frame) → IsOrderlyF
     → IsInRange frame
 orderly-range low [] frame h = h.1
 orderly-range low (one ∷ frames) frame h = orderly-range (one.number + 1) frames frame h.2
+
+-- a front of such frames, and those behind it
+pub orderly-upto : (low : ℕ) (front back : List Frame) → IsOrderlyFrom low (front ++ back) → IsOrderlyFrom low front
+orderly-upto low [] back h = tt
+orderly-upto low (one ∷ front) back h = (h.0, h.1, orderly-upto (one.number + 1) front back h.2)
+
+pub orderly-back : (low : ℕ) (front back : List Frame) → IsOrderlyFrom low (front ++ back) → IsOrderly back
+orderly-back low [] back h = orderly-earlier 0 low back (omega arith) h
+orderly-back low (one ∷ front) back h = orderly-back (one.number + 1) front back h.2
+
+pub orderly-first : (frame : Frame) (frames : List Frame) → IsOrderly (frame ∷ frames) → IsInRange frame
+orderly-first frame frames h = h.1
+
+pub orderly-rest : (frame : Frame) (frames : List Frame) → IsOrderly (frame ∷ frames) → IsOrderly frames
+orderly-rest frame frames h = orderly-earlier 0 (frame.number + 1) frames (omega arith) h.2
 
 orderly-more : (low : ℕ) (frames : List Frame) (frame : Frame) → IsOrderlyFrom low frames
     → AreBelow frame.number frames → IsInRange frame → low ≤ frame.number → IsOrderlyFrom low (frames ++ frame ∷ [])
@@ -249,7 +260,7 @@ stays {frames} {machine} frame stopped h orderly = record {
   shown = h.shown;
   goes_on = λ e. absurd (differ machine.has_stopped stopped e);
   stopped = h.stopped;
-  kept = λ _. past frame (h.kept (orderly-front 0 frames frame orderly));
+  kept = λ _. past frame (h.kept (orderly-upto 0 frames (frame ∷ []) orderly));
 }
   where
     differ : (b : Bool) → b ≡ true → b ≡ false → ⊥
@@ -284,41 +295,38 @@ module _ {frames : List Frame} {old : FoundPass} (frame : Frame) (h : IsFoundAft
         ∙ append-nil old.found.items ∙ ap (λ l. l.items) (sym found);
     goes_on = λ e. (refl, rw (state-more frame pass_start h.met) step.stands);
     stopped = λ e. rw found (h.stopped (sym stopped ∙ e));
-    kept = λ _. rw (found, shown_at) (past frame (h.kept (orderly-front 0 frames frame orderly)));
+    kept = λ _. rw (found, shown_at) (past frame (h.kept (orderly-upto 0 frames (frame ∷ []) orderly)));
   }
 
-  pub said-more : {new : FoundPass} → HasSaid frame old new → IsFoundAfter (frames ++ frame ∷ []) new
-  said-more has =
-      let step = has.step (state_after h.met) (h.goes_on on).1 in record {
-        met = h.met ++ frame ∷ [];
-        rest = [];
-        parts = whole;
-        shown = λ streams name.
-            shown-here streams has.said (step.shown streams (have-own h.met name)) name ∙ sym has.added.found;
-        goes_on = λ e. (refl, rw (state-more frame pass_start h.met) (step.goes_on (sym has.added.stopped ∙ e)));
-        stopped = λ e. rw has.added.found (any-back stops old.found.items has.said (sym has.added.stopped ∙ e));
-        kept = λ _. rw (has.added.found, has.added.shown_at)
-            (found-more has.said frame (h.kept (orderly-front 0 frames frame orderly)) orderly step.numbered);
-      }
+  pub said-more : {new : FoundPass} (here : List Finding) → IsSaidStep (state_after h.met) frame here new.pass
+      → IsAdded frame here old new → IsFoundAfter (frames ++ frame ∷ []) new
+  said-more here step added = record {
+    met = h.met ++ frame ∷ [];
+    rest = [];
+    parts = whole;
+    shown = λ streams name.
+        shown-here streams here (step.shown streams (have-own h.met name)) name ∙ sym added.found;
+    goes_on = λ e. (refl, rw (state-more frame pass_start h.met) (step.goes_on (sym added.stopped ∙ e)));
+    stopped = λ e. rw added.found (any-back stops old.found.items here (sym added.stopped ∙ e));
+    kept = λ _. rw (added.found, added.shown_at)
+        (found-more here frame (h.kept (orderly-upto 0 frames (frame ∷ []) orderly)) orderly step.numbered);
+  }
 
--- the same of what the code says, whose machine gave up quietly just before
+-- the same of what the code says, whose machine did not meet the frame quietly just before
 pub said-after : {E : Type 0} (frame : Frame) (old mid new : FoundPass) (result : Result Bool E)
-    → old.has_stopped ≡ false → (mid.pass.is_lost ≡ false → mid.pass ≡ old.pass)
+    → old.has_stopped ≡ false → mid.pass ≡ old.pass
     → IfOk result (λ said. OnTrue said (HasSaid frame mid new)) → mid.found ≡ old.found → mid.shown_at ≡ old.shown_at
     → IfOk result (λ met. OnTrue met ((frames : List Frame) → IsFoundAfter frames old
     → IsOrderly (frames ++ frame ∷ []) → IsFoundAfter (frames ++ frame ∷ []) new))
 said-after frame old mid new result on left spoken found shown_at =
     IfOk-weaker result _ _ (λ b h. OnTrue_from b _ (λ e. λ frames before orderly.
     let has = OnTrue_at e h in
-    said-more frame before on orderly (record {
-      said = has.said;
-      sound = ap (λ pass. pass.is_lost) (sym (left has.sound)) ∙ has.sound;
-      step = λ state stands. has.step state (rw (left has.sound) stands);
-      added = record {
-        found = rw (← found) has.added.found;
-        shown_at = rw (← shown_at) has.added.shown_at;
-        stopped = has.added.stopped;
-      };
+    said-more frame before on orderly has.said
+    (has.step (state_after before.met) (rw left (before.goes_on on).1))
+    (record {
+      found = rw (← found) has.added.found;
+      shown_at = rw (← shown_at) has.added.shown_at;
+      stopped = has.added.stopped;
     }))) spoken
 
 -- ---- all frames

@@ -1,4 +1,5 @@
 mod HeldLemmas
+mod ShiftLemmas
 mod RowLists
 mod ConnectionLemmas
 mod StreamLemmas
@@ -7,5 +8,8 @@ mod AlikeLemmas
 mod ChangeLemmas
 mod PassLemmas
 mod SaidLemmas
+mod GroupLemmas
+mod ShiftedLemmas
 mod SettingsLemmas
 mod FoundLemmas
+mod OpenedLemmas

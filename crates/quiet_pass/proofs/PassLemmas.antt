@@ -2,7 +2,7 @@
 use Rattle.stream_credit.proofs.Words.{◌≡◌, Option, is_none, eq-eqb, Client, Server, Finding, is_side, side_of, InForce}
 use Rattle.stream_credit.proofs.Words.{ℕ, ◌<◌, ◌&&◌, not, List, [], ◌∷◌, ◌++◌, Some, None, refl, sym, ap, ◌∙◌, Side}
 use Rattle.stream_credit.proofs.Words.{◌+◌, ◌==◌, Bool, true, subst, arith, Sides, Frame, Change, Stream, is_ack, taken}
-use Rattle.stream_credit.proofs.Words.{false, is_some, nat_tests, append-nil, and-false, Settings, change_of, upto_stop}
+use Rattle.stream_credit.proofs.Words.{false, is_some, nat_tests, append-nil, and-false, Settings, change_of}
 use Rattle.stream_credit.proofs.Words.{if◌then◌else◌, initial_after, ConnectionState, connection_said, connection_after}
 use Rattle.stream_credit.proofs.Words.{append_assoc, stream_said, each-in_order, flat_map, change_taking, settings_said}
 use Rattle.std.proofs.Common.{◌%◌, filter}
@@ -10,10 +10,10 @@ use Rattle.audit_terms.specs.Frame.{is_server_promise, meets, promised_by}
 use Rattle.audit_terms.specs.declared.items.Item.{Item}
 use Rattle.audit_terms.specs.Life.{is_opening}
 use Rattle.audit_terms.specs.LocalFault.{local_said}
-use Rattle.audit_terms.specs.Pass.{PassState, pass_start, step_of, opens_stream, next, streams_said, said, full_from}
-use Rattle.audit_terms.specs.Pass.{first_of, streams_of, pass, item_of}
-use Rattle.audit_terms.specs.code.runs.States.{state_from, state_after}
-use Rattle.stream_credit.proofs.QuietSteps.{both, unsaid, none-shown}
+use Rattle.audit_terms.specs.Pass.{PassState, step_of, opens_stream, next, streams_said, said, full_from}
+use Rattle.audit_terms.specs.Pass.{first_of, streams_of, item_of}
+use Rattle.audit_terms.specs.code.runs.States.{state_from}
+use Rattle.stream_credit.proofs.QuietSteps.{both, unsaid}
 use Rattle.audit_terms.specs.declared.last_frames.LastFrame.{LastFrame}
 use Rattle.settings_pair.specs.declared.pending_settings.Pending.{Pending}
 use Rattle.quiet_pass.specs.declared.passes.QuietPass.{QuietPass}
@@ -23,11 +23,9 @@ use Rattle.audit_terms.specs.code.LastFrame.{last_of}
 use Rattle.settings_pair.specs.code.Pending.{IsPending, IsBrought}
 use Rattle.quiet_pass.specs.code.Connection.{connection_of, as_item, IsConnectionAfter}
 use Rattle.quiet_pass.specs.code.Streams.{AreStreams, AreMet, AreMetOn}
-use Rattle.quiet_pass.specs.code.QuietPass.{StandsFor, AreNamed, BringsNothing, IsBroughtInto, IsRestMet, IsQuietStep}
-use Rattle.quiet_pass.specs.code.QuietPass.{IsQuietAfter}
-use Rattle.quiet_pass.specs.laws.QuietFrames.{QuietFramesShowNothing}
+use Rattle.quiet_pass.specs.code.QuietPass.{AreNamed, BringsNothing, HasBrought, IsQuietStep, IsRestMet, StandsFor}
 use Rattle.stream_credit.proofs.StandingLemmas.{promises-other}
-use Rattle.quiet_pass.proofs.StreamLemmas.{unmoved, all-moved}
+use Rattle.quiet_pass.proofs.StreamLemmas.{all-past}
 
 -- ---- the connection and the streams
 
@@ -53,40 +51,25 @@ plain-brought frame now pending plain p = record {
         ≡ side_of d now.paired + (if is_side d frame.side && is_some (taken now frame) then 1 else 0)
     unpaired d = rw plain.ack (simp and-false (omega arith))
 
-pub rest-settings : {frame : Frame} {change : Option Change} {old new : QuietPass} (mid : QuietPass)
-    → ((now : InForce) → IsPending now old.pending → IsBrought now frame change mid.pending)
-    → (is_ack frame.body && is_none change) ≡ false → frame.stream ≡ 0 → is_server_promise frame ≡ false
-    → IsConnectionAfter frame false change old.connection mid.connection → mid.last ≡ old.last
-    → mid.initial ≡ old.initial → mid.streams ≡ old.streams → IsBroughtInto change mid new → IsRestMet frame old new
-rest-settings {frame} {change} {old} {new} mid brought answered zero unpromised c l i s b = record {
+-- SETTINGS or an acknowledgement that moves no window of a stream
+pub rest-still : {frame : Frame} {change : Option Change} {old new : QuietPass} (mid : QuietPass)
+    → HasBrought frame change old mid → (is_ack frame.body && is_none change) ≡ false → frame.stream ≡ 0
+    → is_server_promise frame ≡ false → IsConnectionAfter frame false change mid.connection new.connection
+    → mid.initial ≡ initial_after change mid.initial → new.pending ≡ mid.pending → new.last ≡ mid.last
+    → new.initial ≡ mid.initial → new.streams ≡ mid.streams → IsRestMet frame old new
+rest-still {frame} {change} {old} {new} mid b answered zero unpromised c is p l i s = record {
   change = change;
   opens = false;
-  brought = λ now p. rw b.pending (brought now p);
+  brought = λ now h. rw p (b.brought now h);
   answered = answered;
-  connection = rw b.connection c;
+  connection = rw (← b.connection) c;
   opening = λ streams h. unopened frame (streams frame.stream) zero;
   streams = λ streams h.
-      rw (← i) (all-moved mid.initial new.initial frame change mid.streams new.streams streams b.moved b.initial zero
-      unpromised (rw s h));
-  initial = b.initial ∙ ap (initial_after change) i;
-  last = b.last ∙ l;
+      subst (λ (kept : Streams). AreMet old.initial frame change streams kept) (sym (s ∙ b.streams))
+      (all-past old.initial frame change old.streams streams zero unpromised (rw b.initial at is) h);
+  initial = i ∙ is ∙ ap (initial_after change) b.initial;
+  last = l ∙ b.last;
 }
-
--- the same, where no acknowledgement brings anything
-pub rest-unbrought : {frame : Frame} (change : Option Change) {old new : QuietPass} → is_some change ≡ false
-    → ((now : InForce) → IsPending now old.pending → IsBrought now frame change new.pending)
-    → (is_ack frame.body && is_none change) ≡ false → frame.stream ≡ 0 → is_server_promise frame ≡ false
-    → IsConnectionAfter frame false None old.connection new.connection → new.last ≡ old.last
-    → new.initial ≡ old.initial → new.streams ≡ old.streams → IsRestMet frame old new
-rest-unbrought None {old} {new} none brought answered zero unpromised c l i s =
-    rest-settings new brought answered zero unpromised c l i s (record {
-      initial = refl;
-      moved = unmoved new.initial new.streams;
-      connection = refl;
-      last = refl;
-      pending = refl;
-    })
-rest-unbrought (Some change) none brought answered zero unpromised c l i s = cc
 
 pub rest-stream : {frame : Frame} {opens : Bool} {old new : QuietPass} → BringsNothing frame
     → ((streams : ℕ → Stream) → AreStreams streams old.streams → AreMetOn old.initial frame opens streams new.streams)
@@ -109,7 +92,7 @@ pub unmet : {frame : Frame} (initial : Sides ℕ) (streams : ℕ → Stream) (ke
     → is_server_promise frame ≡ false → AreStreams streams kept → AreMetOn initial frame false streams kept
 unmet {frame} initial streams kept zero unpromised h = record {
   opening = unopened frame (streams frame.stream) zero;
-  met = all-moved initial initial frame None kept kept streams (unmoved initial kept) refl zero unpromised h;
+  met = all-past initial frame None kept streams zero unpromised refl h;
 }
 
 -- ---- one frame
@@ -206,22 +189,7 @@ pub state-more : (frame : Frame) (state : PassState) (frames : List Frame)
 state-more frame state [] = refl
 state-more frame state (one ∷ frames) = state-more frame (next state one) frames
 
-pub frames-met : {frame : Frame} {old new : QuietPass}
-    → ((state : PassState) → StandsFor old state → IsQuietStep state frame new) → (frames : List Frame)
-    → IsQuietAfter frames old → IsQuietAfter (frames ++ frame ∷ []) new
-frames-met {frame} step frames quiet =
-    let own = step (state_after frames) quiet.stands in record {
-      shown = λ streams named.
-          rw (full-more streams frame pass_start frames)
-          (both _ _ (quiet.shown streams named) (own.shown streams named));
-      stands = rw (state-more frame pass_start frames) own.stands;
-    }
-
--- ---- the whole pass
-
-upto-quiet : (found : List Finding) → AreQuiet found → AreQuiet (upto_stop found)
-upto-quiet [] h = tt
-upto-quiet (x ∷ found) h = grind (arith, upto-quiet found h.1)
+-- ---- the streams that are named
 
 named-left : (test : ℕ → Bool) (streams : List ℕ) → AreNamed streams → AreNamed (filter test streams)
 named-left test [] h = tt
@@ -235,9 +203,3 @@ named-all [] = tt
 named-all (frame ∷ frames) =
     named-first frame.stream (first_of (promised_by frame) (streams_of frames))
     (named-first (promised_by frame) (streams_of frames) (named-all frames))
-
-pub quiet-law : QuietFramesShowNothing
-quiet-law frames machine quiet =
-    none-shown (pass frames)
-    (upto-quiet (full_from (streams_of frames) pass_start frames)
-    (quiet.shown (streams_of frames) (named-all frames)))

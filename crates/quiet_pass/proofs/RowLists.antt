@@ -10,7 +10,7 @@ use Rattle.quiet_pass.specs.declared.opened_rows.Row.{Row}
 use Rattle.quiet_pass.proofs.HeldLemmas.{unlow}
 use Rattle.quiet_pass.specs.code.HeldStreams.{held, is_low}
 use Rattle.quiet_pass.specs.code.Rows.{entry_in, AreRisingFrom, AreRising, IsAboveAll, IsRowOf, IsRowAfter}
-use Rattle.quiet_pass.specs.code.Rows.{IsOpened, IsMetOn, IsPut, IsRowMoved, AreMoved, IsRowStepped, AreStepped}
+use Rattle.quiet_pass.specs.code.Rows.{IsOpened, IsMetOn, IsPut, IsRowStepped, AreStepped}
 
 -- ---- the row of a stream
 
@@ -198,12 +198,6 @@ module _ (R : Row → Row → Type 0) (Each : List Row → List Row → Type 0) 
   each-row (one ∷ old) (two ∷ new) e each =
       more one two old new (each zero one (omega arith))
       (each-row old new (omega arith) (λ at d l. each (suc at) d (omega (arith, l))))
-
-pub moved-each : (before after : Sides ℕ) (old new : List Row) → length new ≡ length old
-    → ((at : ℕ) (d : Row) → at < length old → IsRowMoved before after (get_or old at d) (get_or new at d))
-    → AreMoved before after old new
-moved-each before after =
-    each-row (IsRowMoved before after) (AreMoved before after) tt (λ one two old new row rest. (row, rest))
 
 pub stepped-each : (initial : Sides ℕ) (step : Step) (old new : List Row) → length new ≡ length old
     → ((at : ℕ) (d : Row) → at < length old → IsRowStepped initial step (get_or old at d) (get_or new at d))

@@ -104,7 +104,7 @@ module _ {frame : Frame} {old mid moved new : QuietPass} {change : Option Change
     all-said = record {
       named = told.named state.streams stands.streams;
       once = told.once state.streams stands.streams;
-      small = told.small;
+      small = told.small state.streams stands.streams;
       others = λ other above none.
           ap (shown false) (said-is other) ∙ told.others state.streams stands.streams other above none;
     }

@@ -1,10 +1,10 @@
--- A frame that moves no stream but by a change, and what a row answers.
-use Rattle.stream_credit.proofs.Words.{then_some, or_parts, ◌≡◌, ℕ, Bool, true, false, List, [], Some, None, Option}
-use Rattle.stream_credit.proofs.Words.{refl, sym, ◌∙◌, arith, subst, and-false, or-false, ◌||◌, cases_Bool, inl, inr}
+-- A frame that moves no stream but by a change.
+use Rattle.stream_credit.proofs.Words.{or_parts, ◌≡◌, ℕ, Bool, true, false, List, [], Some, None, Option}
+use Rattle.stream_credit.proofs.Words.{refl, sym, ◌∙◌, arith, and-false, or-false, ◌||◌, cases_Bool, inl, inr}
 use Rattle.stream_credit.proofs.Words.{Side, Client, Server, Sides, Body, WindowUpdate, Frame, Change, Step, Stream}
 use Rattle.stream_credit.proofs.Words.{is_reset, increment, ends_window, content_by, grant_to, frame_said, is_last_of}
-use Rattle.stream_credit.proofs.Words.{life_after, stream_said, stream_after, stream_window_said, frame_step, ForSome}
-use Rattle.stream_credit.proofs.Words.{same_Some, StreamLife, ℤ, window_after}
+use Rattle.stream_credit.proofs.Words.{life_after, stream_said, stream_after, stream_window_said, frame_step}
+use Rattle.stream_credit.proofs.Words.{StreamLife, ℤ, window_after}
 use Rattle.std.proofs.Common.{ap₂}
 use Rattle.audit_terms.specs.Frame.{is_content, is_headers, is_update, meets, needs_opening, is_server_promise}
 use Rattle.audit_terms.specs.Life.{is_opening}
@@ -14,12 +14,6 @@ use Rattle.quiet_pass.specs.code.QuietPass.{MovesNoStream}
 use Rattle.quiet_pass.specs.code.Rows.{entry_in, AreRising, IsMetOn}
 use Rattle.quiet_pass.specs.code.Streams.{as_step, IsStep}
 use Rattle.quiet_pass.proofs.StreamLemmas.{step-alone, unmoved-entry}
-
--- what a frame opens, where nothing is shown of it
-pub ForSome-quiet : (quiet opens : Bool) (P : Bool → Type 0) → (quiet ≡ true → P opens)
-    → ForSome (then_some quiet opens) P
-ForSome-quiet true opens P h = λ x e. subst P (same_Some _ _ e) (h refl)
-ForSome-quiet false opens P h = λ x e. cc
 
 -- ---- a frame that moves no stream but by a change
 

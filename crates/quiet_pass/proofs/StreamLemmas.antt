@@ -1,9 +1,9 @@
--- All streams after a frame, and after a change of the initial windows in force (RFC 9113, 6.9.2), of which nothing is
--- shown.
-use Rattle.stream_credit.proofs.Words.{◌≡◌, ℕ, ℤ, ◌<◌, true, List, ◌∷◌, Some, None, refl, sym, ◌∙◌, inl, inr, ints}
+-- All streams after a frame of which nothing is shown.
+use Rattle.stream_credit.proofs.Words.{◌≡◌, ℕ, ℤ, ◌<◌, true, List, Some, None, refl, sym, ◌∙◌, inl, inr, ints}
 use Rattle.stream_credit.proofs.Words.{◌==◌, Bool, false, ap, subst, arith, ne_eqb, Sides, Frame, Change, Stream}
 use Rattle.stream_credit.proofs.Words.{credit_after_change}
-use Rattle.stream_credit.proofs.Words.{int_lt, option_map, and-false, cases_Bool, same_Some, StreamLife, initial_after}
+use Rattle.stream_credit.proofs.Words.{int_lt, option_map, and-false, same_Some, StreamLife, initial_after}
+use Rattle.stream_credit.proofs.Words.{idle_stream, if◌then◌else◌, stream_after}
 use Rattle.stream_credit.proofs.Words.{[], Option, or-false, cases_eq}
 use Rattle.stream_credit.proofs.Words.{eq-eqb, IsQuietMove, and-true}
 use Rattle.std.proofs.Common.{◌%◌, ◌≢◌, ap₂}
@@ -11,9 +11,12 @@ use Rattle.audit_terms.specs.Frame.{is_server_promise, promised_in, meets}
 use Rattle.stream_credit.proofs.QuietSteps.{change_alone, quiet-changes, stream-quiet, stream-moved}
 use Rattle.quiet_pass.specs.declared.opened_rows.Row.{Row}
 use Rattle.quiet_pass.specs.declared.kept_streams.Streams.{Streams}
-use Rattle.quiet_pass.specs.code.Rows.{entry_in, AreRisingFrom, AreRising, IsMetOn, IsPut, AreMoved}
-use Rattle.quiet_pass.specs.code.Streams.{AreStreams, as_step, IsStep, AreMet, AreMetOn, AreAllMoved, ArePut}
-use Rattle.quiet_pass.specs.code.HeldStreams.{held, IsEntryMoved}
+use Rattle.quiet_pass.specs.code.Rows.{entry_in, AreRising, IsMetOn, IsPut}
+use Rattle.quiet_pass.specs.code.Shifts.{raised_in}
+use Rattle.quiet_pass.specs.code.Streams.{AreRowsOf, AreStreams, as_step, IsStep, AreMet, AreMetOn}
+use Rattle.quiet_pass.specs.code.Streams.{ArePut, shift_of}
+use Rattle.quiet_pass.proofs.ShiftLemmas.{none-some}
+use Rattle.quiet_pass.specs.code.HeldStreams.{IsEntryMoved}
 
 -- ---- a stream that the frame does not meet
 
@@ -66,6 +69,53 @@ step-unmet : (s : ℕ) (initial : Sides ℕ) (frame : Frame) (rows : List Row) (
     → entry ≡ entry_in rows s → IsStep s initial (as_step frame None s) entry (entry_in rows s)
 step-unmet s initial frame rows entry m is = rw (← is) (step-past s initial frame entry m)
 
+-- ---- streams that are kept
+
+pub rows-same : (f g : ℕ → Stream) (kept : Streams) → ((o : ℕ) → 0 < o → f o ≡ g o) → AreRowsOf f kept
+    → AreRowsOf g kept
+rows-same f g kept same h = record {
+  odd = λ o p. sym (same o (omega (arith, p))) ∙ h.odd o p;
+  even = λ o p above. sym (same o above) ∙ h.even o p above;
+  opened = h.opened;
+  promised = h.promised;
+}
+
+pub streams-same : (f g : ℕ → Stream) (kept : Streams) → ((o : ℕ) → 0 < o → f o ≡ g o) → AreStreams f kept
+    → AreStreams g kept
+streams-same f g kept same h = record {
+  base = h.base;
+  rows = h.rows;
+  raised = λ o above. sym (same o above) ∙ h.raised o above;
+  grouped = h.grouped;
+}
+
+-- where rows hold all of them
+pub rows-of : (streams : ℕ → Stream) (kept : Streams) → kept.shifted ≡ None → AreStreams streams kept
+    → AreRowsOf streams kept
+rows-of streams kept none h =
+    rows-same h.base streams kept
+    (λ o above.
+    let is : raised_in (shift_of kept) (h.base o) ≡ h.base o = rw none refl in sym (h.raised o above ∙ is)) h.rows
+
+pub of-rows : (streams : ℕ → Stream) (kept : Streams) → kept.shifted ≡ None → AreRowsOf streams kept
+    → AreStreams streams kept
+of-rows streams kept none h = record {
+  base = streams;
+  rows = h;
+  raised = λ o above. rw none refl;
+  grouped = λ shifted e. none-some kept.shifted shifted none e;
+}
+
+-- before any frame
+pub none-kept : (kept : Streams) → kept.opened.items ≡ [] → kept.promised.items ≡ [] → kept.shifted ≡ None
+    → AreStreams (λ s. idle_stream) kept
+none-kept kept opened promised none = of-rows (λ s. idle_stream) kept none (record {
+  odd = λ s p. rw opened refl;
+  even = λ s p above. rw promised refl;
+  opened = rw opened tt;
+  promised = rw promised tt;
+})
+
 -- ---- one stream
 
 step-met : (stream : ℕ) (initial : Sides ℕ) (frame : Frame) (opens : Bool) (old new : List Row)
@@ -90,18 +140,19 @@ all-met : (initial : Sides ℕ) (frame : Frame) (change : Option Change) (stream
     → IsStep s initial (as_step frame change s) (streams s) (entry_in kept.opened.items s))
     → ((s : ℕ) → s % 2 ≡ 0 → 0 < s
     → IsStep s initial (as_step frame change s) (streams s) (entry_in kept.promised.items s))
-    → AreRising kept.opened.items → AreRising kept.promised.items → AreMet initial frame change streams kept
-all-met initial frame change streams kept odd even opened promised = record {
+    → AreRising kept.opened.items → AreRising kept.promised.items → kept.shifted ≡ None
+    → AreMet initial frame change streams kept
+all-met initial frame change streams kept odd even opened promised none = record {
   said = λ s above. elim (cases_eq (s % 2) 1) [
     | inl p ↦ (odd s p).said
     | inr p ↦ (even s (omega (arith, p)) above).said
   ];
-  after = record {
+  after = of-rows (λ s. stream_after s initial (streams s) (as_step frame change s)) kept none (record {
     odd = λ s p. sym (odd s p).after;
     even = λ s p above. sym (even s p above).after;
     opened = opened;
     promised = promised;
-  };
+  });
 }
 
 differ-parity : (a b m n : ℕ) → a % 2 ≡ m → b % 2 ≡ n → (m ≡ n → ⊥) → (a == b) ≡ false
@@ -109,11 +160,11 @@ differ-parity a b m n p q h = ne_eqb a b (λ e. h (sym p ∙ ap (λ x. x % 2) e 
 
 -- ---- a frame that promises nothing
 
-module _ (initial : Sides ℕ) (frame : Frame) (opens : Bool) (old new : Streams) (streams : ℕ → Stream)
-    (h : AreStreams streams old) (unpromised : is_server_promise frame ≡ false) where
-  pub meets-own : (s : ℕ) → meets s frame ≡ (frame.stream == s)
-  meets-own s = rw unpromised (or-false (frame.stream == s))
+pub meets-own : (frame : Frame) → is_server_promise frame ≡ false → (s : ℕ) → meets s frame ≡ (frame.stream == s)
+meets-own frame unpromised s = rw unpromised (or-false (frame.stream == s))
 
+module _ (initial : Sides ℕ) (frame : Frame) (opens : Bool) (old new : Streams) (streams : ℕ → Stream)
+    (h : AreRowsOf streams old) (still : new.shifted ≡ None) (unpromised : is_server_promise frame ≡ false) where
   pub met-odd : frame.stream % 2 ≡ 1 → (AreRising old.opened.items
       → IsMetOn frame.stream initial frame opens old.opened.items new.opened.items)
       → new.promised.items ≡ old.promised.items → AreMetOn initial frame opens streams new
@@ -122,10 +173,11 @@ module _ (initial : Sides ℕ) (frame : Frame) (opens : Bool) (old new : Streams
         opening = rw (h.odd frame.stream p) m.opening;
         met = all-met initial frame None streams new
             (λ s q. step-met frame.stream initial frame opens old.opened.items new.opened.items m s (streams s)
-            (h.odd s q) (meets-own s))
+            (h.odd s q) (meets-own frame unpromised s))
             (λ s q above. step-unmet s initial frame new.promised.items (streams s)
-            (meets-own s ∙ differ-parity frame.stream s 1 0 p q (λ e. cc)) (rw same (h.even s q above)))
-            m.rising (rw same h.promised);
+            (meets-own frame unpromised s ∙ differ-parity frame.stream s 1 0 p q (λ e. cc))
+            (rw same (h.even s q above)))
+            m.rising (rw same h.promised) still;
       }
 
   pub met-even : frame.stream % 2 ≡ 0 → 0 < frame.stream → (AreRising old.promised.items
@@ -136,16 +188,16 @@ module _ (initial : Sides ℕ) (frame : Frame) (opens : Bool) (old new : Streams
         opening = rw (h.even frame.stream p above) m.opening;
         met = all-met initial frame None streams new
             (λ s q. step-unmet s initial frame new.opened.items (streams s)
-            (meets-own s ∙ differ-parity frame.stream s 0 1 p q (λ e. cc)) (rw same (h.odd s q)))
+            (meets-own frame unpromised s ∙ differ-parity frame.stream s 0 1 p q (λ e. cc)) (rw same (h.odd s q)))
             (λ s q some. step-met frame.stream initial frame opens old.promised.items new.promised.items m s (streams s)
-            (h.even s q some) (meets-own s))
-            (rw same h.opened) m.rising;
+            (h.even s q some) (meets-own frame unpromised s))
+            (rw same h.opened) m.rising still;
       }
 
 -- ---- a promise of the server on one of the client's streams
 
-module _ (initial : Sides ℕ) (frame : Frame) (old new : Streams) (streams : ℕ → Stream) (h : AreStreams streams old)
-    (promised : is_server_promise frame ≡ true) (odd : frame.stream % 2 ≡ 1) where
+module _ (initial : Sides ℕ) (frame : Frame) (old new : Streams) (streams : ℕ → Stream) (h : AreRowsOf streams old)
+    (still : new.shifted ≡ None) (promised : is_server_promise frame ≡ true) (odd : frame.stream % 2 ≡ 1) where
   unpromised-odd : (s : ℕ) → s % 2 ≡ 1 → meets s frame ≡ (frame.stream == s)
   unpromised-odd s q = let uneven : (s % 2 == 0) ≡ false = rw q refl in simp (uneven, and-false, or-false)
 
@@ -168,37 +220,8 @@ module _ (initial : Sides ℕ) (frame : Frame) (old new : Streams) (streams : �
             (h.odd s q) (unpromised-odd s q))
             (λ s q above. step-met (promised_in frame.body) initial frame true old.promised.items new.promised.items n s
             (streams s) (h.even s q above) (promised-even s q))
-            m.rising n.rising;
+            m.rising n.rising still;
       }
-
--- ---- rows that a change moves
-
-entries-moved : (before after : Sides ℕ) (old new : List Row) (stream : ℕ) → AreMoved before after old new
-    → IsEntryMoved before after (entry_in old stream) (entry_in new stream)
-entries-moved before after [] [] stream m =
-    record { life = refl; client = refl; server = refl; client_quiet = λ credit e. cc; server_quiet = λ credit e. cc }
-entries-moved before after (one ∷ old) (two ∷ new) stream m =
-    let row = m.0 in
-    rw row.same (elim (cases_Bool (one.stream == stream)) [
-      | inl e ↦ rw e row.moved
-      | inr e ↦ rw e (entries-moved before after old new stream m.1)
-    ])
-entries-moved before after _ _ stream m = absurd m
-
-rising-moved : (before after : Sides ℕ) (low : ℕ) (old new : List Row) → AreMoved before after old new
-    → AreRisingFrom low old → AreRisingFrom low new
-rising-moved before after low [] [] m h = tt
-rising-moved before after low (one ∷ old) (two ∷ new) m h =
-    rw m.0.same (h.0, rising-moved before after one.stream old new m.1 h.1)
-rising-moved before after low _ _ m h = absurd m
-
-unmoved-rows : (initial : Sides ℕ) (rows : List Row) → AreMoved initial initial rows rows
-unmoved-rows initial [] = tt
-unmoved-rows initial (row ∷ rows) =
-    (record { same = refl; moved = unmoved-entry initial (held row.standings) }, unmoved-rows initial rows)
-
-pub unmoved : (initial : Sides ℕ) (streams : Streams) → AreAllMoved initial initial streams streams
-unmoved initial streams = grind (arith, unmoved-rows initial)
 
 pub same-sides : (a b : Sides ℕ) → a.client ≡ b.client → a.server ≡ b.server → a ≡ b
 same-sides a b c s =
@@ -206,32 +229,24 @@ same-sides a b c s =
 
 -- ---- all streams, at a frame on stream 0
 
-pub all-moved : (initial after : Sides ℕ) (frame : Frame) (change : Option Change) (old new : Streams)
-    (streams : ℕ → Stream) → AreAllMoved initial after old new → after ≡ initial_after change initial
-    → frame.stream ≡ 0 → is_server_promise frame ≡ false → AreStreams streams old
-    → AreMet initial frame change streams new
-all-moved initial after frame change old new streams m is zero unpromised h =
-    let unmet = λ (s : ℕ) (above : 0 < s).
-    meets-own initial frame false old new streams h unpromised s
-    ∙ ne_eqb frame.stream s (λ e. absurd (omega (arith, zero, above, e))) in
-    all-met initial frame change streams new
-    (λ s q. rw (h.odd s q) (step-moved s initial after frame change _ _
-    (entries-moved initial after old.opened.items new.opened.items s m.opened) is (unmet s (omega (arith, q)))))
-    (λ s q above. rw (h.even s q above) (step-moved s initial after frame change _ _
-    (entries-moved initial after old.promised.items new.promised.items s m.promised) is (unmet s above)))
-    (rising-moved initial after 0 old.opened.items new.opened.items m.opened h.opened)
-    (rising-moved initial after 0 old.promised.items new.promised.items m.promised h.promised)
+none-met : (frame : Frame) → frame.stream ≡ 0 → is_server_promise frame ≡ false → (s : ℕ) → 0 < s
+    → meets s frame ≡ false
+none-met frame zero unpromised s above =
+    meets-own frame unpromised s ∙ ne_eqb frame.stream s (λ e. absurd (omega (arith, zero, above, e)))
 
--- ---- streams that are kept
+pub all-past : (initial : Sides ℕ) (frame : Frame) (change : Option Change) (kept : Streams) (streams : ℕ → Stream)
+    → frame.stream ≡ 0 → is_server_promise frame ≡ false → initial ≡ initial_after change initial
+    → AreStreams streams kept → AreMet initial frame change streams kept
+all-past initial frame change kept streams zero unpromised is h =
+    let past = λ (s : ℕ) (above : 0 < s).
+    step-moved s initial initial frame change (streams s) (streams s) (unmoved-entry initial (streams s)) is
+    (none-met frame zero unpromised s above) in record {
+      said = λ s above. (past s above).said;
+      after = streams-same streams (λ s. stream_after s initial (streams s) (as_step frame change s)) kept
+          (λ s above. (past s above).after) h;
+    }
 
-pub streams-same : (f g : ℕ → Stream) (kept : Streams) → ((o : ℕ) → 0 < o → f o ≡ g o) → AreStreams f kept
-    → AreStreams g kept
-streams-same f g kept same h = record {
-  odd = λ o p. sym (same o (omega (arith, p))) ∙ h.odd o p;
-  even = λ o p above. sym (same o above) ∙ h.even o p above;
-  opened = h.opened;
-  promised = h.promised;
-}
+-- ---- a stream that is put
 
 module _ (s : ℕ) (entry : Stream) (f g : ℕ → Stream) (own : 0 < s → g s ≡ entry)
     (others : (o : ℕ) → 0 < o → o ≢ s → g o ≡ f o) where
@@ -249,11 +264,15 @@ module _ (s : ℕ) (entry : Stream) (f g : ℕ → Stream) (own : 0 < s → g s 
       others o above differ ∙ e ∙ ap (λ (rows : List Row). entry_in rows o) (sym same)
 
   -- one of them is put, and the others stay
-  pub streams-put : (old new : Streams) → AreStreams f old → ArePut s entry old new → AreStreams g new
-  streams-put old new h put = elim (cases_eq (s % 2) 1) [
+  rows-put : (old new : Streams) → AreRowsOf f old
+      → (s % 2 ≡ 1 → (AreRising old.opened.items → IsPut s entry old.opened.items new.opened.items)
+      × (new.promised.items ≡ old.promised.items))
+      → (s % 2 ≡ 0 → (AreRising old.promised.items → IsPut s entry old.promised.items new.promised.items)
+      × (new.opened.items ≡ old.opened.items)) → AreRowsOf g new
+  rows-put old new h put-odd put-even = elim (cases_eq (s % 2) 1) [
     | inl odd ↦
-        let one = (put.odd odd).0 h.opened in
-        let same = (put.odd odd).1 in record {
+        let one = (put-odd odd).0 h.opened in
+        let same = (put-odd odd).1 in record {
           odd = λ o q. put-rows old.opened.items new.opened.items one o (omega (arith, q)) (h.odd o q);
           even = λ o q above. same-rows old.promised.items new.promised.items same o above
               (λ e. absurd (omega (arith, q, odd, e))) (h.even o q above);
@@ -262,8 +281,8 @@ module _ (s : ℕ) (entry : Stream) (f g : ℕ → Stream) (own : 0 < s → g s 
         }
     | inr other ↦
         let even : s % 2 ≡ 0 = omega (arith, other) in
-        let one = (put.even even).0 h.promised in
-        let same = (put.even even).1 in record {
+        let one = (put-even even).0 h.promised in
+        let same = (put-even even).1 in record {
           odd = λ o q. same-rows old.opened.items new.opened.items same o (omega (arith, q))
               (λ e. absurd (omega (arith, q, even, e))) (h.odd o q);
           even = λ o q above. put-rows old.promised.items new.promised.items one o above (h.even o q above);
@@ -271,3 +290,34 @@ module _ (s : ℕ) (entry : Stream) (f g : ℕ → Stream) (own : 0 < s → g s 
           promised = one.rising;
         }
   ]
+
+-- one of them is put, by what a row holds of it, and the others stay
+pub streams-put : (s : ℕ) (entry : Stream) (f g : ℕ → Stream) → (0 < s → g s ≡ entry)
+    → ((o : ℕ) → 0 < o → o ≢ s → g o ≡ f o) → (old new : Streams) → AreStreams f old → ArePut s entry old new
+    → AreStreams g new
+streams-put s entry f g own others old new h put = record {
+  base = base;
+  rows = rows-put s put.low h.base base (λ above. at-own) (λ o above differ. at-other o differ) old new h.rows put.odd
+      put.even;
+  raised = λ o above. elim (cases_eq o s) [
+    | inl same ↦
+        subst (λ (n : ℕ). g n ≡ raised_in (shift_of new) (base n)) (sym same)
+        (own (subst (λ n. 0 < n) same above) ∙ sym put.raises
+        ∙ ap (λ (shift : Option (Sides ℕ)). raised_in shift put.low) (sym put.shift)
+        ∙ ap (raised_in (shift_of new)) (sym at-own))
+    | inr differ ↦
+        others o above differ ∙ h.raised o above
+        ∙ ap (λ (shift : Option (Sides ℕ)). raised_in shift (h.base o)) (sym put.shift)
+        ∙ ap (raised_in (shift_of new)) (sym (at-other o differ))
+  ];
+  grouped = put.grouped h.grouped;
+}
+  where
+    base : ℕ → Stream
+    base o = if o == s then put.low else h.base o
+
+    at-own : base s ≡ put.low
+    at-own = rw (eq-eqb s s refl) refl
+
+    at-other : (o : ℕ) → o ≢ s → base o ≡ h.base o
+    at-other o differ = rw (ne_eqb o s differ) refl

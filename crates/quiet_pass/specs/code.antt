@@ -1,4 +1,5 @@
 pub mod HeldStreams
+pub mod Shifts
 pub mod Rows
 pub mod Connection
 pub mod Streams
@@ -7,3 +8,4 @@ pub mod QuietConnections
 pub mod FoundConnections
 pub mod SaidFrames
 pub mod FoundPass
+pub mod FoundFlows

@@ -2,8 +2,8 @@
 
 ghost use Rattle.std.specs.Prelude.{IfOk, IfSome, IsTrue, List};
 ghost use Rattle.audit_terms.specs.declared.frames.Frame.{Frame as FrameTerm};
-ghost use Rattle.h2_frames.specs.code.Walk.{IsReadyWalk, IsWholeWalk};
-ghost use Rattle.quiet_pass.specs.code.FoundConnections.{IsFoundFrom, IsFoundOf};
+ghost use Rattle.h2_frames.specs.code.Walk.{IsReadyWalk};
+ghost use Rattle.quiet_pass.specs.code.FoundConnections.{AreAllFrames, IsFoundFrom, IsFoundOf};
 ghost use Rattle.quiet_pass.specs.code.FoundPass.{IsFoundAfter};
 ghost use Rattle.tcp_streams.specs.code.Orderly.{AreFlowsOfOne};
 ghost use Rattle.tcp_streams.specs.declared.flows.Flow.{Flow};
@@ -49,7 +49,7 @@ pub fn found_connection(
 }
 
 /// What `found_connection` answers, from a walk that no frame was taken of.
-fn found_frame_by_frame(
+pub(crate) fn found_frame_by_frame(
     alloc: Global,
     most_frames: usize,
     walk: FrameWalk<'_>,
@@ -64,21 +64,20 @@ fn found_frame_by_frame(
             return Ok(None);
         }
     }
-    Ok(Some(found_after(pass, &walk)))
+    Ok(Some(found_after(pass, walk.taken(), walk.tails())))
 }
 
-/// What is told of a connection all of whose frames were taken, and met.
-fn found_after(pass: FoundPass, walk: &FrameWalk<'_>) -> FoundConnection
-    requires { IsReadyWalk walk.now }
-    ensures { (client server : Flow) → (frames : List FrameTerm) → IsTrue server.started
-        → IsWholeWalk client server frames walk.now → IsFoundAfter frames pass → IsFoundOf client server result }
+/// What is told of a connection of so many frames, and of these tails, whose frames were all met.
+pub(crate) fn found_after(pass: FoundPass, frames: u32, tails: Sides<u32>) -> FoundConnection
+    ensures { (client server : Flow) → (all : List FrameTerm) → IsTrue server.started
+        → AreAllFrames client server all frames tails → IsFoundAfter all pass → IsFoundOf client server result }
 {
     streams_are_those_met();
     let mut findings = pass.found;
     cut_at_stop(&mut findings);
     FoundConnection {
-        frames: walk.taken(),
-        tails: walk.tails(),
+        frames,
+        tails,
         findings,
         shown_at: pass.shown_at,
     }

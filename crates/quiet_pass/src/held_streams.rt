@@ -27,8 +27,8 @@ pub(crate) fn is_low(standings: &Standings) -> bool
 /// The stream that is held so.
 pub(crate) fn held(standings: &Standings) -> Stream
     ensures same { result ≡ held standings.now }
-    ensures client { WindowHasRoom (2 ^ 60) result.window.client }
-    ensures server { WindowHasRoom (2 ^ 60) result.window.server }
+    ensures client { WindowHasRoom (2 ^ 32) result.window.client }
+    ensures server { WindowHasRoom (2 ^ 32) result.window.server }
 {
     if is_low(standings) {
         low_stream(standings)
@@ -41,8 +41,8 @@ pub(crate) fn held(standings: &Standings) -> Stream
 fn low_stream(standings: &Standings) -> Stream
     requires { is_low standings.now ≡ true }
     ensures same { result ≡ low_stream standings.now }
-    ensures client { WindowHasRoom (2 ^ 60) result.window.client }
-    ensures server { WindowHasRoom (2 ^ 60) result.window.server }
+    ensures client { WindowHasRoom (2 ^ 32) result.window.client }
+    ensures server { WindowHasRoom (2 ^ 32) result.window.server }
 {
     let unmarked = Standings {
         opened: standings.opened - LOW,

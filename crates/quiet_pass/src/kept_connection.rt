@@ -82,7 +82,8 @@ impl KeptConnection {
     /// Meets a frame, which opens its stream or not and may bring a change, and returns false if that may show
     /// something.
     pub(crate) fn meet(&mut self, frame: &Frame, opens: bool, change: &Option<Change>) -> bool
-        ensures { OnTrue result (IsConnectionAfter frame.now opens change.now self.old self.new) }
+        ensures quiet { OnTrue result (IsConnectionAfter frame.now opens change.now self.old self.new) }
+        ensures left { OnFalse result (self.new ≡ self.old) }
     {
         let longest = new_limit(change, frame.side, self.limit.of(frame.side));
         if longest < frame.length.get() {

@@ -1,6 +1,6 @@
 //! All streams of a connection.
 
-ghost use Rattle.std.specs.Prelude.{◌≡◌, ℕ, ◌<◌, ◌≤◌, ◌-◌, ◌^◌, true, false, [], None, IfNone, IfOk};
+ghost use Rattle.std.specs.Prelude.{◌≡◌, ℕ, ◌<◌, ◌≤◌, ◌-◌, ◌^◌, true, false, [], None, Option, is_some, IfNone, IfOk};
 ghost use Rattle.std.specs.Bool.{OnTrue, OnFalse};
 ghost use Rattle.std.specs.Option.{ForSome};
 ghost use Rattle.audit_terms.specs.declared.sides.Sides.{Sides as SidesTerm};
@@ -8,11 +8,13 @@ ghost use Rattle.audit_terms.specs.declared.stream_state.Stream.{Stream as Strea
 ghost use Rattle.audit_terms.specs.code.Room.{WindowHasRoom};
 ghost use Rattle.audit_terms.specs.Frame.{is_server_promise};
 ghost use Rattle.quiet_pass.specs.code.Rows.{AreRising, IsMetOn};
-ghost use Rattle.quiet_pass.specs.code.Streams.{AreStreams, AreMetOn, AreAllMoved, ArePut};
-ghost use Rattle.quiet_pass.specs.code.Streams.{IsChangeSaid};
+ghost use Rattle.quiet_pass.specs.code.Streams.{AreRowsOf, AreStreams, AreMetOn, ArePut, IsChangeSaid, shift_of};
 
-use crate::opened_rows::{Row, entry_of, meet, move_all, new_row, open, put, say_all};
-use audit_terms::{Finding, Frame, Sides, Step, Stream, row_of};
+use crate::opened_rows::{Row, entry_of, meet, new_row, open, put_plain, say_all};
+use crate::row_groups::RowGroups;
+use crate::shift_ranges::{lowered, raised_in, shift_after};
+use crate::shifted_rows::{lower_all, put_shifted, say_shifted};
+use audit_terms::{Finding, Frame, Sides, Step, Stream, initial_after, row_of};
 use std::alloc::{AllocError, Global};
 
 /// The rows of the streams that were opened.
@@ -22,37 +24,79 @@ pub(crate) struct Streams {
     opened: Vec<Row>,
     /// The even ones, which the server promises.
     promised: Vec<Row>,
+    /// What rows hold credits less than, where changes have moved many: a change then moves no row.
+    shifted: Option<Shifted>,
+}
+
+/// A shift of all rows, and what is known of groups of them.
+#[derive(Drop)]
+struct Shifted {
+    shift: Sides<u32>,
+    opened: RowGroups,
+    promised: RowGroups,
+}
+
+/// How a stream meets a frame. Streams change at quiet frames alone.
+#[derive(Clone, Copy)]
+pub(crate) enum Meeting {
+    /// Nothing is shown.
+    Quiet,
+    /// The stream has no row, but is to have one.
+    WithoutRow,
+    /// Something may be shown.
+    Shown,
 }
 
 impl Streams {
     pub(crate) fn new(alloc: Global) -> Self
         ensures opened { result.opened.items ≡ [] }
         ensures promised { result.promised.items ≡ [] }
+        ensures shifted { result.shifted ≡ Option.None }
     {
         Streams {
             opened: Vec::new(alloc),
             promised: Vec::new(alloc),
+            shifted: None,
         }
     }
 
-    /// Meets a frame on a stream that is no promise of the server, and returns whether it opens the stream; `None` if
-    /// it may show something.
-    pub(crate) fn meet(
-        &mut self,
-        initial: &Sides<u32>,
-        frame: &Frame,
-    ) -> Result<Option<bool>, AllocError>
+    /// Do rows hold credits less a shift?
+    pub(crate) fn are_shifted(&self) -> bool
+        ensures { result ≡ is_some self.now.shifted }
+    {
+        self.shifted.is_some()
+    }
+
+    /// Meets a frame on a stream that is no promise of the server, if the stream has a row or needs none.
+    pub(crate) fn meet(&mut self, frame: &Frame) -> Meeting
         requires streamed { 0 < frame.now.stream }
         requires unpromised { is_server_promise frame.now ≡ false }
-        ensures quiet { IfOk result (λ met. ForSome met (λ opens. (streams : ℕ → StreamTerm)
-            → AreStreams streams self.old → AreMetOn initial.now frame.now opens streams self.new)) }
-        ensures left { IfOk result (λ met. IfNone met (self.new ≡ self.old)) }
+        ensures quiet { result ≡ Meeting.Quiet → (initial : SidesTerm ℕ) (streams : ℕ → StreamTerm)
+            → AreStreams streams self.old → AreMetOn initial frame.now false streams self.new }
+        ensures left { (result ≡ Meeting.Quiet → ⊥) → self.new ≡ self.old }
     {
-        if frame.stream % 2 == 1 {
-            meet_on(&mut self.opened, initial, frame)
-        } else {
-            meet_on(&mut self.promised, initial, frame)
+        if self.shifted.is_some() {
+            return Meeting::Shown;
         }
+        if frame.stream % 2 == 1 {
+            meet_on(&mut self.opened, frame)
+        } else {
+            meet_on(&mut self.promised, frame)
+        }
+    }
+
+    /// Opens the stream of such a frame, one without a row; returns false if the frame does not open it, or may show
+    /// something.
+    pub(crate) fn open(&mut self, initial: &Sides<u32>, frame: &Frame) -> Result<bool, AllocError>
+        requires { is_server_promise frame.now ≡ false }
+        ensures quiet { IfOk result (λ opened. OnTrue opened ((streams : ℕ → StreamTerm)
+            → AreStreams streams self.old → AreMetOn initial.now frame.now true streams self.new)) }
+        ensures left { IfOk result (λ opened. OnFalse opened (self.new ≡ self.old)) }
+    {
+        if self.shifted.is_some() || frame.stream % 2 == 0 {
+            return Ok(false);
+        }
+        open(&mut self.opened, frame.stream, initial, frame)
     }
 
     /// The stream of an identifier other than 0.
@@ -61,6 +105,25 @@ impl Streams {
             → streams stream ≡ result }
         ensures client { WindowHasRoom (2 ^ 60) result.window.client }
         ensures server { WindowHasRoom (2 ^ 60) result.window.server }
+    {
+        raised_in(&self.held_of(stream), &self.shift())
+    }
+
+    /// What rows hold credits less than, if they do.
+    fn shift(&self) -> Option<Sides<u32>>
+        ensures { result ≡ shift_of self.now }
+    {
+        match &self.shifted {
+            Some(shifted) => Some(shifted.shift),
+            None => None,
+        }
+    }
+
+    /// What a row holds of the stream of an identifier other than 0.
+    fn held_of(&self, stream: u32) -> Stream
+        ensures same { 0 < stream → (base : ℕ → StreamTerm) → AreRowsOf base self.now → base stream ≡ result }
+        ensures client { WindowHasRoom (2 ^ 32) result.window.client }
+        ensures server { WindowHasRoom (2 ^ 32) result.window.server }
     {
         if stream % 2 == 1 {
             entry_of(self.opened.as_slice(), stream)
@@ -73,11 +136,34 @@ impl Streams {
     pub(crate) fn put(&mut self, stream: u32, entry: &Stream) -> Result<bool, AllocError>
         ensures { IfOk result (λ done. OnTrue done (ArePut stream entry.now self.old self.new)) }
     {
-        if stream % 2 == 1 {
-            put(&mut self.opened, stream, entry)
-        } else {
-            put(&mut self.promised, stream, entry)
+        if self.shifted.is_some() {
+            return self.put_shifted(stream, entry);
         }
+        if stream % 2 == 1 {
+            put_plain(&mut self.opened, stream, entry)
+        } else {
+            put_plain(&mut self.promised, stream, entry)
+        }
+    }
+
+    /// The same, where rows hold credits less a shift: what is known of the groups of its row is forgotten.
+    fn put_shifted(&mut self, stream: u32, entry: &Stream) -> Result<bool, AllocError>
+        ensures { IfOk result (λ done. OnTrue done (ArePut stream entry.now self.old self.new)) }
+    {
+        let Some(mut shifted) = self.shifted.take() else {
+            return Ok(false);
+        };
+        let Some(low) = lowered(entry, &shifted.shift) else {
+            return Ok(false);
+        };
+        if stream % 2 == 1 {
+            let is_put = put_shifted(&mut self.opened, &mut shifted.opened, 1, stream, &low)?;
+            self.shifted = Some(shifted);
+            return Ok(is_put);
+        }
+        let is_put = put_shifted(&mut self.promised, &mut shifted.promised, 0, stream, &low)?;
+        self.shifted = Some(shifted);
+        Ok(is_put)
     }
 
     /// Meets a promise of the server, which opens the promised stream, and returns false if that may show something
@@ -92,6 +178,9 @@ impl Streams {
             → AreMetOn initial.now frame.now false streams self.new)) }
         ensures left { IfOk result (λ quiet. OnFalse quiet (self.new ≡ self.old)) }
     {
+        if self.shifted.is_some() {
+            return Ok(false);
+        }
         if frame.stream % 2 == 0 {
             return Ok(false);
         }
@@ -111,13 +200,6 @@ impl Streams {
         self.opened.len().saturating_add(self.promised.len())
     }
 
-    /// Meets a change of the initial windows in force, and returns false if that may show something (6.9.2).
-    pub(crate) fn move_windows(&mut self, before: &Sides<u32>, after: &Sides<u32>) -> bool
-        ensures { OnTrue result (AreAllMoved before.now after.now self.old self.new) }
-    {
-        move_all(&mut self.opened, before, after) && move_all(&mut self.promised, before, after)
-    }
-
     /// Meets a step without a frame, and adds what it shows of all streams; returns whether rows can say all streams
     /// then. Nothing, if the rows are not those of a connection.
     pub(crate) fn say_change(
@@ -131,6 +213,12 @@ impl Streams {
         ensures { IfOk result (λ said. ForSome said (λ kept. IsChangeSaid initial.now step.now kept self.old self.new
             found.old.items found.new.items)) }
     {
+        if self.shifted.is_some() {
+            if !self.say_shifted(found, initial, step)? {
+                return Ok(None);
+            }
+            return Ok(Some(true));
+        }
         let Some(odd) = say_all(&mut self.opened, 1, found, initial, step)? else {
             return Ok(None);
         };
@@ -138,6 +226,81 @@ impl Streams {
             return Ok(None);
         };
         Ok(Some(odd & even))
+    }
+
+    /// The same, where rows hold credits less a shift, and the step moves that alone; returns false where the rows are
+    /// not those of a connection.
+    fn say_shifted(
+        &mut self,
+        found: &mut Vec<Finding>,
+        initial: &Sides<u32>,
+        step: &Step,
+    ) -> Result<bool, AllocError>
+        requires alone { step.now.frame ≡ None }
+        requires numbered { step.now.number ≤ 2 ^ 28 - 2 }
+        ensures { IfOk result (λ said. OnTrue said (IsChangeSaid initial.now step.now true self.old self.new
+            found.old.items found.new.items)) }
+    {
+        let Some(mut shifted) = self.shifted.take() else {
+            return Ok(false);
+        };
+        let shift = shifted.shift;
+        let after = initial_after(&step.change, initial);
+        let Some(next) = shift_after(&shift, initial, &after) else {
+            return Ok(false);
+        };
+        let odd = self.opened.as_slice();
+        if !say_shifted(
+            odd,
+            &mut shifted.opened,
+            found,
+            initial,
+            step,
+            &shift,
+            &next,
+        )? {
+            return Ok(false);
+        }
+        let even = self.promised.as_slice();
+        if !say_shifted(
+            even,
+            &mut shifted.promised,
+            found,
+            initial,
+            step,
+            &shift,
+            &next,
+        )? {
+            return Ok(false);
+        }
+        shifted.shift = next;
+        self.shifted = Some(shifted);
+        Ok(true)
+    }
+
+    /// Brings all rows to hold credits less the initial windows in force, so that changes move no row; returns false if
+    /// a row cannot.
+    pub(crate) fn shift_by(
+        &mut self,
+        alloc: Global,
+        initial: &Sides<u32>,
+    ) -> Result<bool, AllocError>
+        requires { is_some self.old.shifted ≡ false }
+        ensures { IfOk result (λ done. OnTrue done ((streams : ℕ → StreamTerm) → AreStreams streams self.old
+            → AreStreams streams self.new)) }
+    {
+        let Some(opened) = lower_all(alloc, &mut self.opened, 1, initial)? else {
+            return Ok(false);
+        };
+        let Some(promised) = lower_all(alloc, &mut self.promised, 0, initial)? else {
+            return Ok(false);
+        };
+        self.shifted = Some(Shifted {
+            shift: *initial,
+            opened,
+            promised,
+        });
+        Ok(true)
     }
 }
 
@@ -153,26 +316,24 @@ fn meet_opened(rows: &mut Vec<Row>, frame: &Frame) -> bool
     }
 }
 
-/// Meets a frame on a stream, one of those in the rows, and returns whether it opens the stream; `None` if it may show
-/// something. Frames that need no opened stream do nothing to one without a row.
+/// Meets a frame on a stream, one of those in the rows. Frames that need no opened stream do nothing to one without a
+/// row.
 #[inline]
-fn meet_on(
-    rows: &mut Vec<Row>,
-    initial: &Sides<u32>,
-    frame: &Frame,
-) -> Result<Option<bool>, AllocError>
+fn meet_on(rows: &mut Vec<Row>, frame: &Frame) -> Meeting
     requires { is_server_promise frame.now ≡ false }
-    ensures quiet { IfOk result (λ met. ForSome met (λ opens. AreRising rows.old.items
-        → IsMetOn frame.now.stream initial.now frame.now opens rows.old.items rows.new.items)) }
-    ensures left { IfOk result (λ met. IfNone met (rows.new ≡ rows.old)) }
+    ensures quiet { result ≡ Meeting.Quiet → AreRising rows.old.items → (initial : SidesTerm ℕ)
+        → IsMetOn frame.now.stream initial frame.now false rows.old.items rows.new.items }
+    ensures left { (result ≡ Meeting.Quiet → ⊥) → rows.new ≡ rows.old }
 {
     if let Some(at) = row_of(rows.as_slice(), frame.stream) {
-        let is_quiet = meet(rows, at, frame);
-        return Ok(is_quiet.then_some(false));
+        if meet(rows, at, frame) {
+            return Meeting::Quiet;
+        }
+        return Meeting::Shown;
     }
-    if !frame.needs_opening() {
-        return Ok(Some(false));
+    if frame.needs_opening() {
+        Meeting::WithoutRow
+    } else {
+        Meeting::Quiet
     }
-    let is_quiet = open(rows, frame.stream, initial, frame)?;
-    Ok(is_quiet.then_some(true))
 }

@@ -1,54 +1,74 @@
-//! Quiet connections, of which nothing is shown where credits are not: most are quiet. A [`QuietPass`] meets their
-//! frames one by one, in capture order, and keeps none of them. [`quiet_connection`] takes them out of both flows as it
-//! goes, and returns their number, and how many bytes are left over ([`QuietConnection`]). [`found_connection`] goes on
-//! where something is shown, and keeps the findings, and the frames that they name ([`FoundConnection`]).
+//! Connections of which little is shown: most are so. A machine meets their frames one by one, in capture order, and
+//! keeps those alone at which something is shown where credits are not. [`found_connection`] takes the frames out of
+//! both flows as it goes, and returns their number, how many bytes are left over, the findings, and the frames that
+//! they name ([`FoundConnection`]). [`quiet_connection`] answers only where nothing is shown ([`QuietConnection`]), and
+//! lets several threads work on long flows.
 //!
-//! - It follows the pass of `audit_terms`, which steps from state to state. While it is quiet, only credits are said at
-//!   the frames so far, and it stands for the state after them (`IsQuietAfter`). By [`laws::quiet_frames_show_nothing`]
-//!   the pass over these frames then shows nothing. As soon as something may be shown, it gives up.
-//! - Then `found_connection` takes the connection and the streams that meet the frame as they stand, has `fault_rules`
-//!   say what the frame shows, and puts them back, whatever credit is left, and whether or not the streams are opened.
-//!   So it does with SETTINGS and acknowledgements, and with all streams at a change of the initial windows. Past a
-//!   connection error nothing more is met, only counted. It gives up too, and all frames have to be audited, where
-//!   changes move too many rows, and past the number of frames that a caller allows. Rows hold no credits out of range,
-//!   nor streams opened out of order, but in captures the audit stops before these.
+//! - The machine follows the pass of `audit_terms`, which steps from state to state. What it has said of the frames so
+//!   far is what is shown of them, and it stands for the state after them (`IsFoundAfter`). Most frames are met
+//!   quietly: only credits are said at them (`IsQuietStep`), and of SETTINGS and acknowledgements nothing, while no
+//!   window of a stream is moved (`IsStillMet`).
+//! - At others it takes the connection and the streams that meet the frame as they stand, has `fault_rules` say what
+//!   the frame shows, and puts them back, whatever credit is left, and whether or not the streams are opened. So it
+//!   does with all streams at a change of the initial windows. Past a connection error nothing more is met, only
+//!   counted. `found_connection` gives up past the number of frames that a caller allows, and `quiet_connection` at the
+//!   first finding. Both also would at credits below -2^31, for which no capture has the bytes, and at streams opened
+//!   out of order, before which the audit of a capture stops.
+//! - [`ConnectionFindings`] does this while segments come: the machine visits the frames that `h2_frames` hands on, and
+//!   keeps of a connection what it and that stage keep. At the end it answers what `found_connection` does of the flows
+//!   that these segments have, with its contract (`IsFoundOf`), and where the flows end. It is a
+//!   `tcp_streams::ConnectionVisitor`: a `ConnectionStage` of it goes over the packets of a capture, as they come, and
+//!   [`found_of_each`] tells of both flows of each connection, in order of opening (`AreFoundOf`). There is no list of
+//!   flows or frames. No report is made by it yet.
 //! - Streams are gone through in the order of rows, and the definitions say in that of their first frames. Findings are
 //!   put in order by place, so the order makes no difference, nor do streams of which nothing is shown.
 //! - It keeps of each side's last frame whether a field block goes on after it, and of which stream.
 //! - It keeps SETTINGS until the end (`settings_pair::Pending`): connections have few. A change that moves an initial
-//!   window updates all streams (RFC 9113, 6.9.2); past 64 updates for each frame so far it gives up, so that frames
-//!   cost a bounded time each. A change that moves none costs nothing.
+//!   window updates all streams (RFC 9113, 6.9.2). Past 64 updates for each frame so far, rows hold credits less a
+//!   shift (`shift_ranges`), so that a change moves the shift, and no row. What it shows is found by groups of rows
+//!   (`row_groups`): of each the shifts are kept between any two of which nothing is shown of its rows. Where a row is
+//!   put, what is known of its groups is forgotten. A change goes through the groups alone of which too little is known
+//!   or something may be shown: some 200 steps for each row that was put since, and for each finding, and one for each
+//!   2^18 rows. A change that moves none costs nothing.
 //! - An opened stream has a row: how each side stands is one number. Where a live window has no credit left, the row
 //!   holds that too, and is marked, so that its frames are not met quietly. The client opens odd streams in rising
 //!   order, and the server promises even ones likewise (5.1.1): a guess finds a row, else a binary search. A frame that
 //!   opens a stream not past all before it is not quiet, nor any use of one that is not opened. PRIORITY and frames of
 //!   unknown types do nothing to such a stream.
-//! - One rule updates a row for frames of all types, ends and resets too.
+//! - One rule updates a row for frames of all types, ends and resets too. While rows are shifted, `fault_rules` says
+//!   what frames on streams show, quiet ones too.
 //! - Frames take no memory, but for a new stream, SETTINGS and what is shown. No sum wraps, and nothing is asked of the
 //!   caller: credits are kept in 32 bits, and each sum is made in 64.
 //! - Refused by the prover: content of a reset stream that the connection does not count (5.1); exchanged tails; an
 //!   audit that stops only if all findings of a frame end it; frames on a stalled stream that show nothing; a promise
-//!   that shows nothing of the promised stream; a change that leaves the promised streams as they are.
+//!   that shows nothing of the promised stream; a change that leaves the promised streams as they are; a first frame
+//!   that a stage does not meet; findings of a machine that gave up.
 //! - Tested, in `threads_test.py`: that connections of which nothing is shown go through no round, so that it does not
 //!   give up there, and that `found_connection` tells a connection error without one. By whole reports: that both
-//!   succeed where there is memory.
-//! - Tested, in `crate_tests`, over random frames, and not proved: that it gives up only where something is shown.
-//!   Where it does, the rounds say what is.
+//!   succeed where there is memory. In `crate_tests`, over segments in disorder: that neither `found_connection` nor a
+//!   stage of [`ConnectionFindings`] gives up on frames of random connections, and that they tell the same.
+//! - Not proved: that the machine does not give up; where it does, the rounds say what is shown. Only measured: how
+//!   long changes take.
 #![tactic(auto)]
 
+mod connection_findings;
 mod found_connections;
 mod found_passes;
+mod found_visitor;
 mod held_streams;
 mod kept_connection;
 mod kept_streams;
-pub mod laws;
 mod opened_rows;
 mod passes;
 mod quiet_connections;
 mod quiet_frames;
+mod row_groups;
 mod said_frames;
 mod said_settings;
+mod shift_ranges;
+mod shifted_rows;
 
+pub use connection_findings::{ConnectionFindings, FoundFlows, found_of_each};
 pub use found_connections::{FoundConnection, found_connection};
-pub use passes::QuietPass;
+pub use found_visitor::FoundCut;
 pub use quiet_connections::{QuietConnection, quiet_connection};

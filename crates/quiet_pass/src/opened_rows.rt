@@ -7,7 +7,8 @@ ghost use Rattle.audit_terms.specs.Stream.{idle_stream};
 ghost use Rattle.audit_terms.specs.code.Room.{WindowHasRoom};
 ghost use Rattle.audit_terms.specs.declared.sides.Sides.{Sides as SidesTerm};
 ghost use Rattle.quiet_pass.specs.code.Rows.{IsRowOf, IsRowAfter, IsOpened, AreRising, IsMetOn};
-ghost use Rattle.quiet_pass.specs.code.Rows.{AreMoved, AreRowsSaid, IsAboveAll, IsPut, IsRowMoved, IsRowOfParity};
+ghost use Rattle.quiet_pass.specs.code.Rows.{AreRowsSaid, IsAboveAll, IsPut, IsPutAt, IsRowMoved};
+ghost use Rattle.quiet_pass.specs.code.Rows.{IsRowOfParity};
 ghost use Rattle.quiet_pass.specs.code.Rows.{IsRowSaid, entry_in};
 ghost use Rattle.quiet_pass.specs.code.HeldStreams.{held};
 
@@ -113,7 +114,7 @@ impl Row {
     }
 
     /// Is it of a stream of a connection, whose identifier has this remainder by 2?
-    fn is_of_parity(&self, remainder: u32) -> bool
+    pub(crate) fn is_of_parity(&self, remainder: u32) -> bool
         ensures { OnTrue result (IsRowOfParity remainder self.now) }
     {
         self.stream % 2 == remainder && self.stream < 1 << 31
@@ -123,8 +124,8 @@ impl Row {
 /// The stream of an identifier, by its row; without one it is not opened.
 pub(crate) fn entry_of(rows: &[Row], stream: u32) -> Stream
     ensures same { AreRising rows.now → entry_in rows.now stream ≡ result }
-    ensures client { WindowHasRoom (2 ^ 60) result.window.client }
-    ensures server { WindowHasRoom (2 ^ 60) result.window.server }
+    ensures client { WindowHasRoom (2 ^ 32) result.window.client }
+    ensures server { WindowHasRoom (2 ^ 32) result.window.server }
 {
     match row_of(rows, stream) {
         Some(at) => entry_at(rows, stream, at),
@@ -136,34 +137,52 @@ pub(crate) fn entry_of(rows: &[Row], stream: u32) -> Stream
 fn entry_at(rows: &[Row], stream: u32, at: usize) -> Stream
     requires { IsRowOf rows.now stream at }
     ensures same { AreRising rows.now → entry_in rows.now stream ≡ result }
-    ensures client { WindowHasRoom (2 ^ 60) result.window.client }
-    ensures server { WindowHasRoom (2 ^ 60) result.window.server }
+    ensures client { WindowHasRoom (2 ^ 32) result.window.client }
+    ensures server { WindowHasRoom (2 ^ 32) result.window.server }
 {
     let row = rows[at];
     held(&row.standings)
 }
 
-/// Says in the row of a stream what it is now, and returns false if no row can say so. A stream past all others gets a
-/// new row, if it is opened.
-pub(crate) fn put(rows: &mut Vec<Row>, stream: u32, entry: &Stream) -> Result<bool, AllocError>
-    ensures { IfOk result (λ done. OnTrue done (AreRising rows.old.items
-        → IsPut stream entry.now rows.old.items rows.new.items)) }
+/// Says in the row of a stream what it is now, and returns where that row stands; nothing, if no row can say so. A
+/// stream past all others gets a new row, if it is opened.
+pub(crate) fn put(
+    rows: &mut Vec<Row>,
+    stream: u32,
+    entry: &Stream,
+) -> Result<Option<usize>, AllocError>
+    ensures { IfOk result (λ done. ForSome done (λ at. IsPutAt stream entry.now at rows.old.items rows.new.items)) }
 {
     let Some(standings) = hold(entry) else {
-        return Ok(false);
+        return Ok(None);
     };
     put_row(rows, Row { stream, standings })
 }
 
-/// Puts a row in the place of its stream's, or past all others.
-fn put_row(rows: &mut Vec<Row>, row: Row) -> Result<bool, AllocError>
+/// The same; returns false if no row can say so.
+pub(crate) fn put_plain(
+    rows: &mut Vec<Row>,
+    stream: u32,
+    entry: &Stream,
+) -> Result<bool, AllocError>
     ensures { IfOk result (λ done. OnTrue done (AreRising rows.old.items
-        → IsPut row.stream (held row.standings) rows.old.items rows.new.items)) }
+        → IsPut stream entry.now rows.old.items rows.new.items)) }
+{
+    let Some(_) = put(rows, stream, entry)? else {
+        return Ok(false);
+    };
+    Ok(true)
+}
+
+/// Puts a row in the place of its stream's, or past all others.
+fn put_row(rows: &mut Vec<Row>, row: Row) -> Result<Option<usize>, AllocError>
+    ensures { IfOk result (λ done. ForSome done (λ at. IsPutAt row.stream (held row.standings) at
+        rows.old.items rows.new.items)) }
 {
     match row_of(rows.as_slice(), row.stream) {
         Some(at) => {
             put_at(rows, at, row);
-            Ok(true)
+            Ok(Some(at))
         }
         None => put_new(rows, row),
     }
@@ -172,25 +191,26 @@ fn put_row(rows: &mut Vec<Row>, row: Row) -> Result<bool, AllocError>
 /// Puts a row in the place of its stream's.
 fn put_at(rows: &mut Vec<Row>, at: usize, row: Row)
     requires { IsRowOf rows.old.items row.stream at }
-    ensures { AreRising rows.old.items → IsPut row.stream (held row.standings) rows.old.items rows.new.items }
+    ensures { IsPutAt row.stream (held row.standings) at rows.old.items rows.new.items }
 {
     rows[at] = row;
 }
 
-/// Adds the row of a stream that has none, unless it is not opened; returns false if it is not past all others.
-fn put_new(rows: &mut Vec<Row>, row: Row) -> Result<bool, AllocError>
+/// Adds the row of a stream that has none, unless it is not opened; nothing, if it is not past all others.
+fn put_new(rows: &mut Vec<Row>, row: Row) -> Result<Option<usize>, AllocError>
     requires { AreRising rows.old.items → entry_in rows.old.items row.stream ≡ idle_stream }
-    ensures { IfOk result (λ done. OnTrue done (AreRising rows.old.items
-        → IsPut row.stream (held row.standings) rows.old.items rows.new.items)) }
+    ensures { IfOk result (λ done. ForSome done (λ at. IsPutAt row.stream (held row.standings) at
+        rows.old.items rows.new.items)) }
 {
+    let at = rows.len();
     if row.is_idle() {
-        return Ok(true);
+        return Ok(Some(at));
     }
     if !is_above_all(rows.as_slice(), row.stream) {
-        return Ok(false);
+        return Ok(None);
     }
     rows.push(row)?;
-    Ok(true)
+    Ok(Some(at))
 }
 
 /// Meets a frame on the stream of a row, and returns false if that may show something.
@@ -247,19 +267,6 @@ pub(crate) fn open(
         }
         None => Ok(false),
     }
-}
-
-/// Meets a change of the initial windows in force, and returns false if that may show something.
-pub(crate) fn move_all(rows: &mut Vec<Row>, before: &Sides<u32>, after: &Sides<u32>) -> bool
-    ensures { OnTrue result (AreMoved before.now after.now rows.old.items rows.new.items) }
-{
-    for at in 0..rows.len() {
-        let Some(next) = rows[at].after_change(before, after) else {
-            return false;
-        };
-        rows[at] = next;
-    }
-    true
 }
 
 /// Adds what a step without a frame shows of the streams of all rows, and brings the rows past the step; returns

@@ -1,17 +1,16 @@
 //! Quiet connections: their frames are met as they are read, and no list of them is made.
 
-ghost use Rattle.std.specs.Prelude.{IfOk, IfSome, IsTrue, List};
-ghost use Rattle.audit_terms.specs.declared.frames.Frame.{Frame as FrameTerm};
-ghost use Rattle.h2_frames.specs.code.Batch.{HasTaken, IsNumbered};
-ghost use Rattle.h2_frames.specs.code.Walk.{IsReadyWalk, IsWholeWalk};
-ghost use Rattle.quiet_pass.specs.code.QuietConnections.{HasMet, IsFoundQuiet, IsQuietOf};
-ghost use Rattle.quiet_pass.specs.code.QuietPass.{IsQuietAfter};
-ghost use Rattle.quiet_pass.specs.declared.passes.QuietPass.{QuietPass as PassTerm};
+ghost use Rattle.std.specs.Prelude.{IfOk, IfSome};
+ghost use Rattle.audit_terms.specs.code.runs.Orderly.{IsOrderly};
+ghost use Rattle.h2_frames.specs.code.Batch.{HasTaken, IsNumbered, frames_of};
+ghost use Rattle.h2_frames.specs.code.Walk.{IsFreshWalk, IsReadyWalk};
+ghost use Rattle.quiet_pass.specs.code.FoundConnections.{IsFoundFrom, IsFoundOf};
+ghost use Rattle.quiet_pass.specs.code.QuietConnections.{HasMet, IsQuietOf};
 ghost use Rattle.tcp_streams.specs.code.Orderly.{AreFlowsOfOne};
 ghost use Rattle.tcp_streams.specs.declared.flows.Flow.{Flow};
 
-use crate::laws::quiet_frames_show_nothing;
-use crate::passes::QuietPass;
+use crate::found_connections::{FoundConnection, found_after, found_frame_by_frame};
+use crate::found_passes::FoundPass;
 use audit_terms::Sides;
 use h2_frames::{Begun, FrameBatch, FrameWalk, begin};
 use std::alloc::{AllocError, Global};
@@ -30,8 +29,8 @@ pub struct QuietConnection {
 
 /// The number of frames and the tails of a quiet connection of HTTP/2; credits are not shown.
 ///
-/// A machine meets the frames, keeps none of them, and gives up at the first that may show something: where the answer
-/// is `None`, nothing is known. With two `threads` or more, several work on long flows.
+/// A machine meets the frames, keeps none of them, and gives up at the first that shows something: where the answer is
+/// `None`, nothing is known. With two `threads` or more, several work on long flows.
 pub fn quiet_connection<R: Threads>(
     rt: &R,
     alloc: Global,
@@ -45,45 +44,44 @@ pub fn quiet_connection<R: Threads>(
     let Begun::Http2(walk) = begin(alloc, client, server) else {
         return Ok(None);
     };
-    if 2 <= threads && walk.is_long() {
-        quiet_batch_by_batch(rt, alloc, threads, walk)
+    let found = if 2 <= threads && walk.is_long() {
+        found_batch_by_batch(rt, alloc, threads, walk)?
     } else {
-        quiet_frame_by_frame(alloc, walk)
-    }
+        found_frame_by_frame(alloc, 0, walk)?
+    };
+    Ok(quiet_in(found))
 }
 
-/// As `quiet_connection`, from a walk from which no frame was taken: each frame is met as it is taken.
-fn quiet_frame_by_frame(
-    alloc: Global,
-    walk: FrameWalk<'_>,
-) -> Result<Option<QuietConnection>, AllocError>
-    requires { IsReadyWalk walk }
-    ensures { IsFoundQuiet walk.entry result }
+/// What is known of a connection of which nothing was found.
+fn quiet_in(found: Option<FoundConnection>) -> Option<QuietConnection>
+    ensures { (client server : Flow) → IfSome found (IsFoundOf client server)
+        → IfSome result (IsQuietOf client server) }
 {
-    let mut walk = walk;
-    let mut pass = QuietPass::begin(alloc);
-    while let Some(frame) = walk.take_next()? {
-        if !pass.meet(&frame)? {
-            return Ok(None);
-        }
+    let found = found?;
+    if !found.findings.is_empty() {
+        return None;
     }
-    Ok(Some(quiet_after(&walk)))
+    Some(QuietConnection {
+        frames: found.frames,
+        tails: found.tails,
+    })
 }
 
-/// As `quiet_frame_by_frame`, in batches: while one thread meets a batch, others take the next one.
-fn quiet_batch_by_batch<R: Threads>(
+/// As `found_frame_by_frame`, in batches: while one thread meets a batch, others take the next one. No answer, where
+/// something is found.
+fn found_batch_by_batch<R: Threads>(
     rt: &R,
     alloc: Global,
     threads: usize,
     mut walk: FrameWalk<'_>,
-) -> Result<Option<QuietConnection>, AllocError>
-    requires { IsReadyWalk walk }
-    ensures { IsFoundQuiet walk.entry result }
+) -> Result<Option<FoundConnection>, AllocError>
+    requires { (client server : Flow) × IsFreshWalk client server walk }
+    ensures { IsFoundFrom walk.entry result }
 {
     let mut batch = FrameBatch::new(alloc);
     let mut more = walk.take_batch(rt, threads, &mut batch)?;
     let mut next = FrameBatch::new(alloc);
-    let mut pass = QuietPass::begin(alloc);
+    let mut pass = FoundPass::begin(alloc);
     while more {
         let (met, taken) = meet_and_take(rt, threads, &mut pass, &batch, &mut walk, &mut next);
         if !met? {
@@ -92,20 +90,21 @@ fn quiet_batch_by_batch<R: Threads>(
         more = taken?;
         mem::swap(&mut batch, &mut next);
     }
-    Ok(Some(quiet_after(&walk)))
+    Ok(Some(found_after(pass, walk.taken(), walk.tails())))
 }
 
 /// Meets a batch, and takes the next one.
 fn meet_and_take<R: Threads>(
     rt: &R,
     threads: usize,
-    pass: &mut QuietPass,
+    pass: &mut FoundPass,
     batch: &FrameBatch,
     walk: &mut FrameWalk<'_>,
     next: &mut FrameBatch,
 ) -> (Result<bool, AllocError>, Result<bool, AllocError>)
     requires ready { IsReadyWalk walk.old }
     requires numbered { IsNumbered batch.now }
+    requires orderly { IsOrderly (frames_of batch.now) }
     ensures met { IfOk result.0 (HasMet batch.now pass.old pass.new) }
     ensures taken { IfOk result.1 (HasTaken walk.old walk.new next.new) }
 {
@@ -116,39 +115,29 @@ fn meet_and_take<R: Threads>(
 /// its place it lies beside what others write.
 // Measured, as a field of one value with the sides' lists it took 260 to 280 ms of processor time in place of 159 to
 // 189, since cache lines went back and forth.
-fn meet_batch(pass: &mut QuietPass, batch: &FrameBatch) -> Result<bool, AllocError>
-    requires { IsNumbered batch.now }
+fn meet_batch(pass: &mut FoundPass, batch: &FrameBatch) -> Result<bool, AllocError>
+    requires numbered { IsNumbered batch.now }
+    requires orderly { IsOrderly (frames_of batch.now) }
     ensures { IfOk result (HasMet batch.now pass.old pass.new) }
 {
-    let mut own = mem::replace(pass, QuietPass::begin(batch.alloc()));
+    let mut own = mem::replace(pass, FoundPass::begin(batch.alloc()));
     let met = meet_each(&mut own, batch);
     *pass = own;
     met
 }
 
 /// Meets the frames of a batch one after the other.
-fn meet_each(pass: &mut QuietPass, batch: &FrameBatch) -> Result<bool, AllocError>
-    requires { IsNumbered batch.now }
+fn meet_each(pass: &mut FoundPass, batch: &FrameBatch) -> Result<bool, AllocError>
+    requires numbered { IsNumbered batch.now }
+    requires orderly { IsOrderly (frames_of batch.now) }
     ensures { IfOk result (HasMet batch.now pass.old pass.new) }
 {
+    let alloc = batch.alloc();
     let mut merge = batch.merge();
     while let Some(frame) = merge.take_next() {
-        if !pass.meet(&frame)? {
+        if !pass.meet(alloc, &frame)? || pass.has_found_past(0, &frame) {
             return Ok(false);
         }
     }
     Ok(true)
-}
-
-/// What is told of a connection whose frames were all taken, where the pass over them stayed quiet.
-fn quiet_after(walk: &FrameWalk<'_>) -> QuietConnection
-    requires { IsReadyWalk walk.now }
-    ensures { (client server : Flow) → (frames : List FrameTerm) → (pass : PassTerm) → IsTrue server.started
-        → IsWholeWalk client server frames walk.now → IsQuietAfter frames pass → IsQuietOf client server result }
-{
-    quiet_frames_show_nothing();
-    QuietConnection {
-        frames: walk.taken(),
-        tails: walk.tails(),
-    }
 }

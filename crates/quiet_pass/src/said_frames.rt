@@ -13,7 +13,7 @@ ghost use Rattle.quiet_pass.specs.code.SaidFrames.{IsConnectionKept, IsConnectio
 ghost use Rattle.quiet_pass.specs.code.SaidFrames.{IsSaidStep};
 
 use crate::kept_connection::KeptConnection;
-use crate::passes::{QuietPass, is_of_settings, keep_last};
+use crate::passes::{QuietPass, keep_last};
 use audit_terms::{
     Change, ConnectionState, Finding, Frame, Item, Step, Stream, keep_shown, put_in_order,
 };
@@ -21,30 +21,10 @@ use fault_rules::{say_connection, say_local_after, say_stream};
 use std::alloc::{AllocError, Global};
 
 impl QuietPass {
-    /// What a frame shows, in order; then the machine is past it, unless the audit stops there. Nothing, where the
-    /// machine cannot say it, or cannot stand for the state after it.
+    /// What a frame shows that brings no change, in order: by itself, of the connection, and of its stream and the one
+    /// that it promises. Then the machine is past it, unless the audit stops there. Nothing, where the machine cannot
+    /// stand for the state after it.
     pub(crate) fn say(
-        &mut self,
-        alloc: Global,
-        frame: &Frame,
-    ) -> Result<Option<Vec<Finding>>, AllocError>
-        requires { IsInRange frame.now }
-        ensures said { IfOk result (λ said. ForSome said (λ found. (state : PassState) → StandsFor self.old state
-            → IsSaidStep state frame.now found.items self.new)) }
-        ensures kept { IfOk result (λ said. ForSome said (λ _. self.old.is_lost ≡ false)) }
-    {
-        if self.is_lost {
-            return Ok(None);
-        }
-        if is_of_settings(frame) {
-            return self.say_settings(alloc, frame);
-        }
-        self.say_plain(alloc, frame)
-    }
-
-    /// What a frame shows that brings no change: by itself, of the connection, and of its stream and the one that it
-    /// promises.
-    fn say_plain(
         &mut self,
         alloc: Global,
         frame: &Frame,

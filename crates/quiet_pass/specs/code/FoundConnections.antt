@@ -1,12 +1,13 @@
 -- A connection of which something may be shown, and the frames at which it is.
 use Rattle.std.specs.List.{AllByRecursion}
-use Rattle.std.specs.Prelude.{◌≡◌, ◌==◌, false, List, find, length, IsTrue, IfOk, IfSome, Option, Result}
+use Rattle.std.specs.Prelude.{◌≡◌, ◌==◌, ℕ, false, List, find, length, IsTrue, IfOk, IfSome, Option, Result}
 use Rattle.audit_terms.specs.Finding.{shown}
 use Rattle.audit_terms.specs.Pass.{pass}
 use Rattle.audit_terms.specs.Place.{place_number}
 use Rattle.audit_terms.specs.code.runs.Orderly as runs
 use Rattle.audit_terms.specs.declared.findings.Finding.{Finding}
 use Rattle.audit_terms.specs.declared.frames.Frame.{Frame}
+use Rattle.audit_terms.specs.declared.sides.Sides.{Sides}
 use Rattle.h2_frames.specs.Cut.{IsHttp2}
 use Rattle.h2_frames.specs.code.Walk.{IsFreshWalk}
 use Rattle.h2_frames.specs.declared.walk.FrameWalk.{FrameWalk}
@@ -30,6 +31,12 @@ pub record IsFoundOf (client server : Flow) (found : FoundConnection) : Type 0 w
   pub findings : found.findings.items ≡ shown false (pass frames)
   pub some_orderly : runs.IsOrderly found.shown_at.items
   pub named : AllByRecursion (IsNamedAlike frames found.shown_at.items) found.findings.items
+
+-- these are all frames of a connection, so many, and its tails
+pub record AreAllFrames (client server : Flow) (frames : List Frame) (count : ℕ) (tails : Sides ℕ) : Type 0 where
+  pub http2 : IsHttp2 client server frames tails
+  pub orderly : runs.IsOrderly frames
+  pub counted : count ≡ length frames
 
 -- what is found of a connection of which no frame was taken is so
 abbrev pub IsFoundFrom : {E : Type 0} → FrameWalk → Result (Option FoundConnection) E → Type 0

@@ -64,7 +64,6 @@ pub record IsAdded (frame : Frame) (said : List Finding) (old new : FoundPass) :
 -- a frame was met, and what it shows was said
 pub record HasSaid (frame : Frame) (old new : FoundPass) : Type 0 where
   pub said : List Finding
-  pub sound : old.pass.is_lost ≡ false
   pub step : (state : PassState) → StandsFor old.pass state → IsSaidStep state frame said new.pass
   pub added : IsAdded frame said old new
 

@@ -1,6 +1,6 @@
 -- A connection of which nothing is shown.
 use Rattle.std.specs.Bool.{OnTrue}
-use Rattle.std.specs.Prelude.{◌≡◌, Bool, false, List, [], ◌++◌, length, IsTrue, Option, Result, IfOk, IfSome}
+use Rattle.std.specs.Prelude.{◌≡◌, Bool, false, List, [], ◌++◌, length, IsTrue}
 use Rattle.quiet_pass.specs.declared.quiet_connections.QuietConnection.{QuietConnection}
 use Rattle.audit_terms.specs.Finding.{shown}
 use Rattle.audit_terms.specs.Pass.{pass}
@@ -8,11 +8,10 @@ use Rattle.audit_terms.specs.code.runs.Orderly as runs
 use Rattle.audit_terms.specs.declared.frames.Frame.{Frame}
 use Rattle.h2_frames.specs.Cut.{IsHttp2}
 use Rattle.h2_frames.specs.code.Batch.{AreTaken, frames_of}
-use Rattle.h2_frames.specs.code.Walk.{IsFreshWalk, IsWalkAfter}
 use Rattle.h2_frames.specs.declared.batches.FrameBatch.{FrameBatch}
 use Rattle.h2_frames.specs.declared.walk.FrameWalk.{FrameWalk}
-use Rattle.quiet_pass.specs.code.QuietPass.{IsQuietAfter}
-use Rattle.quiet_pass.specs.declared.passes.QuietPass.{QuietPass}
+use Rattle.quiet_pass.specs.code.FoundPass.{IsFoundAfter}
+use Rattle.quiet_pass.specs.declared.found_passes.FoundPass.{FoundPass}
 use Rattle.tcp_streams.specs.declared.flows.Flow.{Flow}
 
 -- the flows hold so many frames, and tails; one pass over the frames shows nothing, where credits are not shown
@@ -24,25 +23,15 @@ pub record IsQuietOf (client server : Flow) (quiet : QuietConnection) : Type 0 w
   pub count : quiet.frames ≡ length frames
   pub silent : shown false (pass frames) ≡ []
 
--- where a connection of which no frame was taken is found to be quiet, it is
-abbrev pub IsFoundQuiet : {E : Type 0} → FrameWalk → Result (Option QuietConnection) E → Type 0
-IsFoundQuiet walk found = (client server : Flow) → IsFreshWalk client server walk
-    → IfOk found (λ quiet. IfSome quiet (IsQuietOf client server))
-
--- of the connection's frames those that were taken were met, and show nothing
-pub record IsMetUpTo (client server : Flow) (walk : FrameWalk) (machine : QuietPass) : Type 0 where
-  pub frames : List Frame
-  pub taken : IsWalkAfter client server frames walk
-  pub quiet : IsQuietAfter frames machine
-
--- the frames of a batch were met after others, and show nothing
-abbrev pub HasMet : FrameBatch → (old new : QuietPass) → (met : Bool) → Type 0
+-- the frames of a batch were met after others
+abbrev pub HasMet : FrameBatch → (old new : FoundPass) → (met : Bool) → Type 0
 HasMet batch old new met =
-    OnTrue met ((frames : List Frame) → IsQuietAfter frames old → IsQuietAfter (frames ++ frames_of batch) new)
+    OnTrue met ((frames : List Frame) → IsFoundAfter frames old → runs.IsOrderly (frames ++ frames_of batch)
+    → IsFoundAfter (frames ++ frames_of batch) new)
 
--- of the frames taken so far all but a batch were met, and show nothing
+-- of the frames taken so far all but a batch were met
 pub record IsMetButFor (batch : FrameBatch) (more : Bool) (client server : Flow) (walk : FrameWalk)
-    (machine : QuietPass) : Type 0 where
+    (machine : FoundPass) : Type 0 where
   pub frames : List Frame
   pub taken : AreTaken more client server frames batch walk
-  pub quiet : IsQuietAfter frames machine
+  pub found : IsFoundAfter frames machine

@@ -1,5 +1,4 @@
--- What the machine that meets a connection's frames stands for, for as long as nothing is shown. The contract of its
--- `meet` cites this.
+-- What the machine stands for that meets a connection's frames.
 use Rattle.std.specs.Prelude.{◌≡◌, ℕ, ◌<◌, Bool, false, ◌&&◌, List, [], Option, is_none}
 use Rattle.std.specs.List.{AllByRecursion}
 use Rattle.audit_terms.specs.declared.frames.Frame.{Frame}
@@ -8,15 +7,14 @@ use Rattle.audit_terms.specs.declared.stream_state.Stream.{Stream}
 use Rattle.audit_terms.specs.Frame.{is_ack, is_server_promise, needs_opening, settings_in}
 use Rattle.audit_terms.specs.Life.{is_opening}
 use Rattle.audit_terms.specs.InForce.{InForce}
-use Rattle.audit_terms.specs.Pass.{PassState, pass_start, next, said, full_from}
-use Rattle.audit_terms.specs.code.runs.States.{state_after}
+use Rattle.audit_terms.specs.Pass.{PassState, next, said}
 use Rattle.audit_terms.specs.code.runs.Streams.{initial_after}
 use Rattle.quiet_pass.specs.declared.passes.QuietPass.{QuietPass}
 use Rattle.stream_credit.specs.code.Standings.{AreQuiet}
 use Rattle.audit_terms.specs.code.LastFrame.{last_of}
 use Rattle.settings_pair.specs.code.Pending.{IsPending, IsBrought}
 use Rattle.quiet_pass.specs.code.Connection.{connection_of, IsConnectionAfter}
-use Rattle.quiet_pass.specs.code.Streams.{AreStreams, AreMet, AreAllMoved}
+use Rattle.quiet_pass.specs.code.Streams.{AreStreams, AreMet}
 
 -- the machine stands for a state of the pass
 pub record StandsFor (machine : QuietPass) (state : PassState) : Type 0 where
@@ -41,13 +39,13 @@ pub record MovesNoStream (frame : Frame) : Type 0 where
   pub unneeded : needs_opening frame ≡ false
   pub unpromised : is_server_promise frame ≡ false
 
--- the initial windows of a change are in force, and all rows are moved: nothing of that is shown
-pub record IsBroughtInto (change : Option Change) (old new : QuietPass) : Type 0 where
-  pub initial : new.initial ≡ initial_after change old.initial
-  pub moved : AreAllMoved old.initial new.initial old.streams new.streams
-  pub connection : new.connection ≡ old.connection
+-- the settings that are kept have met a frame, which brings this change or none
+pub record HasBrought (frame : Frame) (change : Option Change) (old new : QuietPass) : Type 0 where
+  pub brought : (now : InForce) → IsPending now old.pending → IsBrought now frame change new.pending
   pub last : new.last ≡ old.last
-  pub pending : new.pending ≡ old.pending
+  pub initial : new.initial ≡ old.initial
+  pub connection : new.connection ≡ old.connection
+  pub streams : new.streams ≡ old.streams
 
 -- the settings, the connection and the streams have met a frame: nothing of that is shown
 pub record IsRestMet (frame : Frame) (old new : QuietPass) : Type 0 where
@@ -63,16 +61,7 @@ pub record IsRestMet (frame : Frame) (old new : QuietPass) : Type 0 where
   pub initial : new.initial ≡ initial_after change old.initial
   pub last : new.last ≡ old.last
 
--- the machine is as it was, unless it is lost
-abbrev pub IsLeft : (old new : QuietPass) → Type 0
-IsLeft old new = new.is_lost ≡ false → new ≡ old
-
 -- a frame shows nothing, and the machine stands for the state after it
 pub record IsQuietStep (state : PassState) (frame : Frame) (machine : QuietPass) : Type 0 where
   pub shown : (streams : List ℕ) → AreNamed streams → AreQuiet (said streams state frame)
   pub stands : StandsFor machine (next state frame)
-
--- the frames show nothing, whichever streams are looked at, and the machine stands for the state after them
-pub record IsQuietAfter (frames : List Frame) (machine : QuietPass) : Type 0 where
-  pub shown : (streams : List ℕ) → AreNamed streams → AreQuiet (full_from streams pass_start frames)
-  pub stands : StandsFor machine (state_after frames)

@@ -1,6 +1,7 @@
 -- The rows of the streams that were opened. No public clause cites this.
 use Rattle.std.specs.List.{AllByRecursion, flat_map}
 use Rattle.std.specs.Prelude.{◌≡◌, ◌≢◌, ℕ, ◌<◌, ◌%◌, ◌^◌, Bool, ◌==◌, true, false, if◌then◌else◌, List, [], ◌∷◌, ◌++◌}
+use Rattle.std.specs.Prelude.{Some, slice_get}
 use Rattle.audit_terms.specs.Finding.{shown}
 use Rattle.audit_terms.specs.declared.sides.Sides.{Sides}
 use Rattle.audit_terms.specs.declared.findings.Finding.{Finding}
@@ -13,6 +14,7 @@ use Rattle.audit_terms.specs.code.runs.Streams.{frame_step}
 use Rattle.audit_terms.specs.code.StreamRows.{IsRowWith}
 use Rattle.stream_credit.specs.code.Standings.{AreQuiet, IsNextOpened, IsOpenedBy}
 use Rattle.quiet_pass.specs.code.HeldStreams.{held, is_low, IsEntryMoved}
+use Rattle.quiet_pass.specs.code.Shifts.{raised}
 use Rattle.quiet_pass.specs.declared.opened_rows.Row.{Row}
 
 -- a stream by its identifier: one without a row is not opened
@@ -64,17 +66,16 @@ pub record IsPut (stream : ℕ) (entry : Stream) (old new : List Row) : Type 0 w
   pub others : (other : ℕ) → other ≢ stream → entry_in new other ≡ entry_in old other
   pub rising : AreRising new
 
+-- the same, and where: the rows elsewhere stay as they are
+pub record IsPutAt (stream : ℕ) (entry : Stream) (at : ℕ) (old new : List Row) : Type 0 where
+  pub put : AreRising old → IsPut stream entry old new
+  pub others : (other : ℕ) → other ≢ at → slice_get new other ≡ slice_get old other
+  pub own : (row : Row) → slice_get new at ≡ Some row → row.stream ≡ stream
+
 -- a row after the initial windows in force go from some to others: nothing is shown of it
 pub record IsRowMoved (before after : Sides ℕ) (old new : Row) : Type 0 where
   pub same : new.stream ≡ old.stream
   pub moved : IsEntryMoved before after (held old.standings) (held new.standings)
-
--- each row after that
-abbrev pub AreMoved : (before after : Sides ℕ) → (old new : List Row) → Type 0
-AreMoved before after [] [] = Unit {0}
-AreMoved before after (row ∷ rows) (next ∷ nexts) =
-    IsRowMoved before after row next × AreMoved before after rows nexts
-AreMoved before after _ _ = ⊥
 
 -- what a step shows of the stream of a row
 abbrev pub row_said : Sides ℕ → Step → Row → List Finding
@@ -91,6 +92,21 @@ pub record IsRowSaid (initial : Sides ℕ) (step : Step) (kept : Bool) (old new 
   pub said : shown false after ≡ shown false before ++ shown false (row_said initial step old)
   pub stepped : kept ≡ true → IsRowStepped initial step old new
 
+-- what a step shows of the stream of a row that holds credits less a shift
+abbrev pub shifted_said : (shift initial : Sides ℕ) → Step → Row → List Finding
+shifted_said shift initial step row = stream_said row.stream initial (raised shift (held row.standings)) step
+
+-- a row that holds its stream less a shift
+pub record IsLowered (shift : Sides ℕ) (old new : Row) : Type 0 where
+  pub same : new.stream ≡ old.stream
+  pub low : raised shift (held new.standings) ≡ held old.standings
+
+-- each row
+abbrev pub AreLowered : Sides ℕ → (old new : List Row) → Type 0
+AreLowered shift [] [] = Unit {0}
+AreLowered shift (row ∷ rows) (next ∷ nexts) = IsLowered shift row next × AreLowered shift rows nexts
+AreLowered shift _ _ = ⊥
+
 -- each row after a step
 abbrev pub AreStepped : Sides ℕ → Step → (old new : List Row) → Type 0
 AreStepped initial step [] [] = Unit {0}
@@ -102,6 +118,10 @@ AreStepped initial step _ _ = ⊥
 pub record IsRowOfParity (remainder : ℕ) (row : Row) : Type 0 where
   pub parity : row.stream % 2 ≡ remainder
   pub small : row.stream < 2 ^ 31
+
+-- all of them are
+abbrev pub AreOfParity : (remainder : ℕ) → List Row → Type 0
+AreOfParity remainder rows = (at : ℕ) (row : Row) → slice_get rows at ≡ Some row → IsRowOfParity remainder row
 
 -- what a step shows of the streams of rows was added, and each row is as it is after the step, if all could be kept
 pub record AreRowsSaid (remainder : ℕ) (initial : Sides ℕ) (step : Step) (kept : Bool) (old new : List Row)

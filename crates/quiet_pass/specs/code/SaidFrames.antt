@@ -22,7 +22,7 @@ use Rattle.audit_terms.specs.declared.sides.Sides.{Sides}
 use Rattle.audit_terms.specs.declared.stream_state.Stream.{Stream}
 use Rattle.quiet_pass.specs.code.Connection.{as_item, connection_of}
 use Rattle.quiet_pass.specs.code.QuietPass.{AreNamed, StandsFor}
-use Rattle.quiet_pass.specs.code.Streams.{ArePut, IsChangeSaid}
+use Rattle.quiet_pass.specs.code.Streams.{ArePut, AreStreams, IsChangeSaid}
 use Rattle.quiet_pass.specs.declared.kept_streams.Streams.{Streams}
 use Rattle.quiet_pass.specs.declared.passes.QuietPass.{QuietPass}
 
@@ -67,6 +67,14 @@ pub record IsBroughtSaying (frame : Frame) (change : Option Change) (kept : Bool
     (before after : List Finding) : Type 0 where
   pub initial : new.initial ≡ initial_after change old.initial
   pub streams : IsChangeSaid old.initial (change_alone frame change) kept old.streams new.streams before after
+  pub connection : new.connection ≡ old.connection
+  pub last : new.last ≡ old.last
+  pub pending : new.pending ≡ old.pending
+
+-- rows hold the same streams as before
+pub record HasCountedMoves (old new : QuietPass) : Type 0 where
+  pub streams : (streams : ℕ → Stream) → AreStreams streams old.streams → AreStreams streams new.streams
+  pub initial : new.initial ≡ old.initial
   pub connection : new.connection ≡ old.connection
   pub last : new.last ≡ old.last
   pub pending : new.pending ≡ old.pending

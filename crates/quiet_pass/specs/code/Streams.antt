@@ -1,7 +1,7 @@
 -- All streams, as they are kept in rows. No public clause cites this.
 use Rattle.std.specs.List.{AllByRecursion, IsDistinct, flat_map, list_any}
 use Rattle.std.specs.Prelude.{◌≡◌, ℕ, ◌%◌, ◌<◌, ◌^◌, ◌==◌, Bool, true, false, if◌then◌else◌, List, [], ◌++◌, Option}
-use Rattle.std.specs.Prelude.{Some, None}
+use Rattle.std.specs.Prelude.{Some, None, option_map}
 use Rattle.audit_terms.specs.declared.sides.Sides.{Sides}
 use Rattle.audit_terms.specs.declared.findings.Finding.{Finding}
 use Rattle.audit_terms.specs.declared.frames.Frame.{Frame}
@@ -12,17 +12,41 @@ use Rattle.audit_terms.specs.Finding.{shown}
 use Rattle.audit_terms.specs.Frame.{meets}
 use Rattle.audit_terms.specs.Life.{is_opening}
 use Rattle.audit_terms.specs.Stream.{stream_said, stream_after}
+use Rattle.quiet_pass.specs.declared.kept_streams.Shifted.{Shifted}
 use Rattle.quiet_pass.specs.declared.kept_streams.Streams.{Streams}
 use Rattle.stream_credit.specs.code.Standings.{AreQuiet}
-use Rattle.quiet_pass.specs.code.Rows.{entry_in, AreRising, AreMoved, IsPut}
+use Rattle.quiet_pass.specs.code.Rows.{entry_in, AreOfParity, AreRising, IsPut}
+use Rattle.quiet_pass.specs.code.Shifts.{AreCovered, raised_in}
 
 -- the rows are those of the streams: of the odd ones, which the client opens, and of the even ones, which the server
 -- promises (RFC 9113, 5.1.1)
-pub record AreStreams (streams : ℕ → Stream) (kept : Streams) : Type 0 where
+pub record AreRowsOf (streams : ℕ → Stream) (kept : Streams) : Type 0 where
   pub odd : (stream : ℕ) → stream % 2 ≡ 1 → streams stream ≡ entry_in kept.opened.items stream
   pub even : (stream : ℕ) → stream % 2 ≡ 0 → 0 < stream → streams stream ≡ entry_in kept.promised.items stream
   pub opened : AreRising kept.opened.items
   pub promised : AreRising kept.promised.items
+
+-- the shift that rows hold credits less than, if they do
+abbrev pub shift_of : Streams → Option (Sides ℕ)
+shift_of kept = option_map (λ (shifted : Shifted). shifted.shift) kept.shifted
+
+-- the rows are those of odd and of even streams, and what is known of groups of them holds
+pub record AreGroups (shifted : Shifted) (kept : Streams) : Type 0 where
+  pub odd : AreOfParity 1 kept.opened.items
+  pub even : AreOfParity 0 kept.promised.items
+  pub opened : AreCovered shifted.opened kept.opened.items
+  pub promised : AreCovered shifted.promised kept.promised.items
+
+-- the same, if rows hold credits less a shift
+abbrev pub AreGrouped : Streams → Type 0
+AreGrouped kept = (shifted : Shifted) → kept.shifted ≡ Some shifted → AreGroups shifted kept
+
+-- the streams, of which rows hold all, or all but a shift
+pub record AreStreams (streams : ℕ → Stream) (kept : Streams) : Type 0 where
+  pub base : ℕ → Stream
+  pub rows : AreRowsOf base kept
+  pub raised : (stream : ℕ) → 0 < stream → streams stream ≡ raised_in (shift_of kept) (base stream)
+  pub grouped : AreGrouped kept
 
 -- what a stream meets at a frame that brings a change, or none
 abbrev pub as_step : Frame → Option Change → (stream : ℕ) → Step
@@ -50,17 +74,12 @@ pub record AreMetOn (initial : Sides ℕ) (frame : Frame) (opens : Bool) (stream
   pub opening : is_opening frame.stream (streams frame.stream).life frame ≡ opens
   pub met : AreMet initial frame None streams kept
 
--- all rows after the initial windows in force go from some to others
-pub record AreAllMoved (before after : Sides ℕ) (old new : Streams) : Type 0 where
-  pub opened : AreMoved before after old.opened.items new.opened.items
-  pub promised : AreMoved before after old.promised.items new.promised.items
-
 -- what a step without a frame shows of some streams was added, it shows nothing of others, and the streams are as they
 -- are after the step, if all could be kept
 pub record IsChangeSaid (initial : Sides ℕ) (step : Step) (kept : Bool) (old new : Streams)
     (before after : List Finding) : Type 0 where
   pub some : List ℕ
-  pub small : AllByRecursion (λ stream. stream < 2 ^ 31) some
+  pub small : (streams : ℕ → Stream) → AreStreams streams old → AllByRecursion (λ stream. stream < 2 ^ 31) some
   pub said : (streams : ℕ → Stream) → AreStreams streams old → shown false after ≡ shown false before
       ++ shown false (flat_map (λ stream. stream_said stream initial (streams stream) step) some)
   pub named : (streams : ℕ → Stream) → AreStreams streams old → AllByRecursion (λ stream. 0 < stream) some
@@ -71,11 +90,13 @@ pub record IsChangeSaid (initial : Sides ℕ) (step : Step) (kept : Bool) (old n
   pub met : kept ≡ true → (streams : ℕ → Stream) → AreStreams streams old
       → AreStreams (λ stream. stream_after stream initial (streams stream) step) new
 
--- this is a stream now, and no other stream changes
+-- this is a stream now, and no other stream changes: a row holds it, or all of it but the shift
 pub record ArePut (stream : ℕ) (entry : Stream) (old new : Streams) : Type 0 where
-  pub odd : stream % 2 ≡ 1
-      → (AreRising old.opened.items → IsPut stream entry old.opened.items new.opened.items)
+  pub low : Stream
+  pub raises : raised_in (shift_of old) low ≡ entry
+  pub shift : shift_of new ≡ shift_of old
+  pub odd : stream % 2 ≡ 1 → (AreRising old.opened.items → IsPut stream low old.opened.items new.opened.items)
       × (new.promised.items ≡ old.promised.items)
-  pub even : stream % 2 ≡ 0
-      → (AreRising old.promised.items → IsPut stream entry old.promised.items new.promised.items)
+  pub even : stream % 2 ≡ 0 → (AreRising old.promised.items → IsPut stream low old.promised.items new.promised.items)
       × (new.opened.items ≡ old.opened.items)
+  pub grouped : AreGrouped old → AreGrouped new

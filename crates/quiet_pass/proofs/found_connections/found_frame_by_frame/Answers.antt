@@ -1,4 +1,4 @@
-use Rattle.std.proofs.Common.{[], ◌∷◌, ◌++◌}
+use Rattle.std.proofs.Common.{[], ◌∷◌, ◌++◌, ◌∙◌}
 use Rattle.quiet_pass.proofs.found_connections.found_frame_by_frame.Goals as goal
 
 pub loop-pass-preserved : goal.loop-pass-preserved
@@ -19,4 +19,11 @@ pub returns : goal.returns
 returns c = λ client server fresh.
     let met = c.loop-pass.invariant.met client server fresh.whole in
     let over = rw c.in_default.is at c.in_ok-frame.ensures.over in
-    c.found_after.ensures client server met.frames fresh.started (over client server met.frames met.taken) met.found
+    let whole = over client server met.frames met.taken in
+    c.found_after.ensures client server met.frames fresh.started
+    (record {
+      http2 = rw c.tails.ensures whole.http2;
+      orderly = whole.orderly;
+      counted = c.taken.ensures ∙ whole.count;
+    })
+    met.found

@@ -1,16 +1,42 @@
-use Rattle.stream_credit.proofs.Words.{◌∙◌, OnTrue_at, refl, sym}
+use Rattle.stream_credit.proofs.Words.{List, [], ◌∷◌, ◌++◌, OnTrue_at, ap, arith, length, refl, same_Some, slice_get}
+use Rattle.stream_credit.proofs.Words.{sym, ◌∙◌, ◌≡◌, ◌≤◌}
+use Rattle.std.proofs.lemmas.Option.{slice_get_past}
+use Rattle.quiet_pass.proofs.GroupLemmas.{push-elsewhere, push-here}
 use Rattle.quiet_pass.proofs.RowLists.{row-added}
+use Rattle.quiet_pass.proofs.ShiftLemmas.{none-some}
+use Rattle.quiet_pass.specs.declared.opened_rows.Row.{Row}
 use Rattle.quiet_pass.proofs.opened_rows.put_new.Goals as goal
 
 pub returns-then-is_idle : goal.returns-then-is_idle
-returns-then-is_idle c = λ rising. record {
-  own = c.requires rising ∙ sym (OnTrue_at c.if-is_idle.true c.is_idle.ensures);
-  others = λ other differ. refl;
-  rising = rising;
-}
+returns-then-is_idle c at e =
+    let rows = c.args.rows.now.items in
+    let past : length rows ≤ c.len-at.result = omega (arith, c.len-at.ensures, c.args.rows.now.ok.0) in
+    rw (← same_Some _ _ e) (record {
+      put = λ rising. record {
+        own = c.requires rising ∙ sym (OnTrue_at c.if-is_idle.true c.is_idle.ensures);
+        others = λ other differ. refl;
+        rising = rising;
+      };
+      others = λ other differ. refl;
+      own = λ row there.
+          none-some (slice_get rows c.len-at.result) row (slice_get_past rows c.len-at.result past) there;
+    })
 
 pub returns : goal.returns
-returns c = λ rising.
-    rw c.in_ok-push.ensures.items
-    (row-added c.args.rows.now.items c.args.row
-    ((rw c.as_slice.ensures.value at c.if-not-is_above_all.ensures) rising) rising)
+returns c at e =
+    let rows = c.args.rows.now.items in
+    let row = c.args.row in
+    let end : c.len-at.result ≡ length rows = omega (arith, c.len-at.ensures, c.args.rows.now.ok.0) in
+    rw (← same_Some _ _ e) (record {
+      put = λ rising.
+          rw c.in_ok-push.ensures.items
+          (row-added rows row ((rw c.as_slice.ensures.value at c.if-not-is_above_all.ensures) rising) rising);
+      others = λ other differ.
+          ap (λ (items : List Row). slice_get items other) c.in_ok-push.ensures.items
+          ∙ push-elsewhere rows other row (λ same. differ (same ∙ sym end));
+      own = λ one there.
+          ap (λ (row : Row). row.stream)
+          (same_Some one row
+          (sym there ∙ ap (λ (items : List Row). slice_get items c.len-at.result) c.in_ok-push.ensures.items
+          ∙ ap (slice_get (rows ++ row ∷ [])) end ∙ push-here rows row));
+    })

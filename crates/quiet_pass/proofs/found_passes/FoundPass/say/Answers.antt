@@ -4,8 +4,7 @@ pub returns-in_ok-add-in-Some : goal.returns-in_ok-add-in-Some
 returns-in_ok-add-in-Some c =
     let adds = c.in_ok-add-in-Some.ensures in record {
       said = c.in-Some.said.items;
-      sound = c.in_ok-said.ensures.kept c.in-Some.said c.in-Some.is;
-      step = λ state stands. rw adds.pass (c.in_ok-said.ensures.said c.in-Some.said c.in-Some.is state stands);
+      step = λ state stands. rw adds.pass (c.in_ok-said.ensures c.in-Some.said c.in-Some.is state stands);
       added = record {
         found = adds.added.found;
         shown_at = adds.added.shown_at;

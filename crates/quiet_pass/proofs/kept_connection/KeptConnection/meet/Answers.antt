@@ -2,8 +2,8 @@ use Rattle.stream_credit.proofs.Words.{◌≡◌, ℕ, nat_lt, false, ap, subst,
 use Rattle.quiet_pass.proofs.ConnectionLemmas.{connection-met}
 use Rattle.quiet_pass.proofs.kept_connection.KeptConnection.meet.Goals as goal
 
-pub returns : goal.returns
-returns c =
+pub returns-clause-quiet : goal.returns-clause-quiet
+returns-clause-quiet c =
     let frame = c.args.frame.now in
     let old = c.args.self.now in
     let change = c.args.change.now in

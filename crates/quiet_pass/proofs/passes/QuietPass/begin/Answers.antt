@@ -1,6 +1,13 @@
 use Rattle.stream_credit.proofs.Words.{arith}
+use Rattle.quiet_pass.proofs.StreamLemmas.{none-kept}
 use Rattle.quiet_pass.proofs.passes.QuietPass.begin.Goals as goal
 
 pub returns : goal.returns
-returns c =
-    grind (arith, c.new.ensures, c.new-2.ensures, c.start.ensures)
+returns c = record {
+  client = grind arith;
+  server = grind arith;
+  pending = c.new.ensures;
+  initial = grind arith;
+  connection = c.start.ensures;
+  streams = none-kept c.new-2.result c.new-2.ensures.opened c.new-2.ensures.promised c.new-2.ensures.shifted;
+}

@@ -4,5 +4,5 @@ use Rattle.quiet_pass.proofs.passes.QuietPass.meet_promise.Goals as goal
 
 pub returns-clause-quiet : goal.returns-clause-quiet
 returns-clause-quiet c =
-    rest-stream c.requires.plain (rw c.if-not-branch.false at c.in_ok-promise.ensures.quiet) c.if-not-meet.ensures refl
-    refl refl
+    rest-stream c.requires.plain (rw c.if-not-branch.false at c.in_ok-promise.ensures.quiet)
+    c.if-not-meet.ensures.quiet refl refl refl

@@ -1,21 +1,21 @@
-use Rattle.stream_credit.proofs.Words.{same_Some, sym, ◌∙◌, refl}
+use Rattle.stream_credit.proofs.Words.{same_Some}
 use Rattle.quiet_pass.proofs.SettingsLemmas.{brought-quietly}
-use Rattle.quiet_pass.proofs.StreamLemmas.{same-sides}
+use Rattle.quiet_pass.proofs.ShiftedLemmas.{said-from}
 use Rattle.quiet_pass.proofs.passes.QuietPass.say_change.Goals as goal
 
-pub returns-then-after-self-2 : goal.returns-then-after-self-2
-returns-then-after-self-2 c = λ kept e.
-    let old = c.args.self.now in
-    let initial = sym (same-sides c.initial_after-after.result old.initial c.if-after-self.true c.if-after-self-2.true)
-    ∙ c.initial_after-after.ensures in
-    rw (← same_Some _ _ e) (brought-quietly old c.args.found.now.items initial)
+pub returns-then-leaves_windows : goal.returns-then-leaves_windows
+returns-then-leaves_windows c = λ kept e.
+    rw (← same_Some _ _ e)
+    (brought-quietly c.args.self.now c.args.found.now.items c.if-leaves_windows.ensures)
 
 pub returns : goal.returns
 returns c = λ kept e.
+    let counted = rw c.if-not-branch.false at c.in_ok-count_moves.ensures in
     rw (← same_Some _ _ e) (record {
       initial = c.initial_after-after.ensures;
-      streams = c.in_ok-are_kept.ensures c.in-Some-2.are_kept c.in-Some-2.is;
-      connection = refl;
-      last = refl;
-      pending = refl;
+      streams = said-from counted.streams
+          (rw counted.initial at (c.in_ok-are_kept.ensures c.in-Some.are_kept c.in-Some.is));
+      connection = counted.connection;
+      last = counted.last;
+      pending = counted.pending;
     })

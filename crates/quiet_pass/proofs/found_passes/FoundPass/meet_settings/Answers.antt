@@ -1,0 +1,25 @@
+use Rattle.stream_credit.proofs.Words.{refl}
+use Rattle.quiet_pass.proofs.FoundLemmas.{quiet-more, said-more}
+use Rattle.quiet_pass.proofs.found_passes.FoundPass.meet_settings.Goals as goal
+
+pub returns-then-meet_still : goal.returns-then-meet_still
+returns-then-meet_still c = λ frames h orderly.
+    quiet-more c.args.frame.now h c.requires.on orderly
+    (c.if-meet_still.ensures.quiet c.args.self.now.pass
+    (record { brought = c.in_ok-change.ensures; last = refl; initial = refl; connection = refl; streams = refl }) _
+    (h.goes_on c.requires.on).1) refl refl refl
+
+pub returns : goal.returns
+returns c = λ frames h orderly.
+    let adds = c.in_ok-add.ensures in
+    said-more c.args.frame.now h c.requires.on orderly c.in-Some.said.items
+    (rw adds.pass
+    (c.in_ok-said.ensures c.in-Some.said c.in-Some.is c.args.self.now.pass
+    (rw c.if-meet_still.ensures.left (record {
+      brought = c.in_ok-change.ensures;
+      last = refl;
+      initial = refl;
+      connection = refl;
+      streams = refl;
+    })) _ (h.goes_on c.requires.on).1))
+    (record { found = adds.added.found; shown_at = adds.added.shown_at; stopped = adds.added.stopped })

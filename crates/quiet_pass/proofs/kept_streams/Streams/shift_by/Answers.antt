@@ -1,0 +1,16 @@
+use Rattle.stream_credit.proofs.Words.{refl}
+use Rattle.quiet_pass.proofs.ShiftLemmas.{none-of}
+use Rattle.quiet_pass.proofs.ShiftedLemmas.{begins-shifted}
+use Rattle.quiet_pass.proofs.kept_streams.Streams.shift_by.Goals as goal
+
+pub returns : goal.returns
+returns c =
+    let old = c.args.self.now in
+    let none = none-of old.shifted c.requires in
+    let odd = c.in_ok-opened.ensures in
+    let even = c.in_ok-promised.ensures in
+    let one = c.in-Some.opened in
+    let two = c.in-Some-2.promised in
+    begins-shifted (record { shift = c.args.initial.now; opened = one; promised = two }) old _ none refl
+    (odd.lowered one c.in-Some.is) (even.lowered two c.in-Some-2.is) (odd.own one c.in-Some.is)
+    (even.own two c.in-Some-2.is) (odd.covered one c.in-Some.is) (even.covered two c.in-Some-2.is)

@@ -1,0 +1,8 @@
+use Rattle.stream_credit.proofs.Words.{refl}
+use Rattle.quiet_pass.proofs.PassLemmas.{rest-stream}
+use Rattle.quiet_pass.proofs.passes.QuietPass.meet_opening.Goals as goal
+
+pub returns-clause-quiet : goal.returns-clause-quiet
+returns-clause-quiet c =
+    rest-stream c.requires.plain (rw c.if-not-branch.false at c.in_ok-open.ensures.quiet)
+    c.if-not-meet.ensures.quiet refl refl refl

@@ -1,0 +1,10 @@
+use Rattle.quiet_pass.proofs.row_groups.RowGroups.quiet_from.Goals as goal
+
+pub returns-then-not-is_quiet_from-2 : goal.returns-then-not-is_quiet_from-2
+returns-then-not-is_quiet_from-2 c rows covered = c.if-not-is_quiet_from.ensures rows covered.small
+
+pub returns-then-not-is_quiet_from-3 : goal.returns-then-not-is_quiet_from-3
+returns-then-not-is_quiet_from-3 c rows covered = c.if-not-is_quiet_from-2.ensures rows covered.middle
+
+pub returns : goal.returns
+returns c rows covered = c.if-not-is_quiet_from-3.ensures rows covered.large

@@ -1,0 +1,81 @@
+-- A connection of which something may be shown, while its segments come, and each connection of a capture.
+use Rattle.std.specs.List.{AllZip}
+use Rattle.std.specs.Prelude.{◌≡◌, ℕ, false, List, IsTrue, Some}
+use Rattle.audit_terms.specs.declared.frames.Frame.{Frame}
+use Rattle.audit_terms.specs.declared.sides.Side.TheVariants.{Client, Server}
+use Rattle.audit_terms.specs.declared.sides.Sides.{Sides}
+use Rattle.h2_frames.specs.Cut.{IsCut, IsHttp2}
+use Rattle.h2_frames.specs.code.ConnectionFrames.{EndsSo, HasTakenSent}
+use Rattle.h2_frames.specs.declared.cuts.Cut.TheVariants.{NoHandshake as CutNoHandshake, NoPreface as CutNoPreface}
+use Rattle.h2_frames.specs.declared.cuts.Cut.TheVariants.{NotHttp2 as CutNotHttp2}
+use Rattle.packet_heads.specs.declared.packets.Packet.{Packet}
+use Rattle.packet_heads.specs.declared.packets.Segment.{Segment}
+use Rattle.tcp_streams.specs.Flow.{IsFlowFrom}
+use Rattle.tcp_streams.specs.Members.{initial_of, side_segments}
+use Rattle.tcp_streams.specs.Membership.{IsConnectionOf, belongings, openings}
+use Rattle.tcp_streams.specs.code.{SentFlows.AreFlowsSent, Side.AreSentIn, Side.Sent}
+use Rattle.tcp_streams.specs.declared.flows.Flow.{Flow}
+use Rattle.tcp_streams.specs.declared.members.Connection.{Connection}
+use Rattle.quiet_pass.specs.code.FoundConnections.{IsFoundOf}
+use Rattle.quiet_pass.specs.code.FoundPass.{IsFoundAfter}
+use Rattle.quiet_pass.specs.declared.connection_findings.ConnectionFindings.{ConnectionFindings}
+use Rattle.quiet_pass.specs.declared.connection_findings.FoundFlows.{FoundFlows}
+use Rattle.quiet_pass.specs.declared.found_visitor.FoundCut.{FoundCut}
+use Rattle.quiet_pass.specs.declared.found_visitor.FoundCut.TheVariants.{GivenUp, Http2, NoHandshake, NoPreface}
+use Rattle.quiet_pass.specs.declared.found_visitor.FoundCut.TheVariants.{NotHttp2}
+use Rattle.quiet_pass.specs.declared.found_visitor.FoundVisitor.{FoundVisitor}
+
+-- the frames were met, unless the machine gave up
+abbrev pub HaveBeenMet : List Frame → FoundVisitor → Type 0
+HaveBeenMet frames visitor = visitor.has_given_up ≡ false → IsFoundAfter frames visitor.pass
+
+-- of a connection that a SYN opened these segments were taken, none of a record above `last`, and the frames of their
+-- flows met
+abbrev pub HasMetSent : (opening : Segment) → List Sent → (last : ℕ) → ConnectionFindings → Type 0
+HasMetSent opening sent last stage = HasTakenSent HaveBeenMet opening sent last stage.frames
+
+-- both flows are of HTTP/2
+pub record AreHttp2 (client server : Flow) : Type 0 where
+  pub frames : List Frame
+  pub tails : Sides ℕ
+  pub started : IsTrue server.started
+  pub http2 : IsHttp2 client server frames tails
+
+-- what two flows hold, and what is shown of it, where credits are not shown
+abbrev pub IsFoundCut : (client server : Flow) → FoundCut → Type 0
+IsFoundCut client server (Http2 found) = IsFoundOf client server found
+IsFoundCut client server GivenUp = AreHttp2 client server
+IsFoundCut client server NotHttp2 = IsCut client server CutNotHttp2
+IsFoundCut client server NoPreface = IsCut client server CutNoPreface
+IsFoundCut client server NoHandshake = IsCut client server CutNoHandshake
+
+-- the same, and where they end
+pub record AreFoundFlows (client server : Flow) (all : FoundFlows) : Type 0 where
+  pub cut : IsFoundCut client server all.cut
+  pub client_end : EndsSo client all.client
+  pub server_end : EndsSo server all.server
+
+-- so it is of both flows of these segments, of whatever capture they were sent in
+abbrev pub IsFoundOfSent : (opening : Segment) → List Sent → FoundFlows → Type 0
+IsFoundOfSent opening sent all =
+    (capture : List ℕ) (client server : Flow) → AreSentIn (Some capture) sent
+    → AreFlowsSent capture opening sent client server → AreFoundFlows client server all
+
+-- both flows of a connection of a capture with these packets, as `tcp_streams::assemble` gives them
+pub record AreFlowsIn
+    (capture : List ℕ) (packets : List Packet) (connection : Connection) (client server : Flow) : Type 0 where
+  pub client_is : IsFlowFrom (initial_of connection Client) capture (side_segments packets connection Client) client
+  pub server_is : IsFlowFrom (initial_of connection Server) capture (side_segments packets connection Server) server
+
+-- so it is of the connection that a SYN opened: it has two flows, and whichever these are, this is found of them
+pub record IsFoundOfOpening (capture : List ℕ) (packets : List Packet) (opening : Segment) (all : FoundFlows)
+    : Type 0 where
+  pub flows : (connection : Connection) → IsConnectionOf (belongings packets) opening connection
+      → (flows : Sides Flow) × AreFlowsIn capture packets connection flows.client flows.server
+  pub found : (connection : Connection) (client server : Flow)
+      → IsConnectionOf (belongings packets) opening connection
+      → AreFlowsIn capture packets connection client server → AreFoundFlows client server all
+
+-- and of the connection of each opening, in order
+abbrev pub AreFoundOf : List ℕ → List Packet → List FoundFlows → Type 0
+AreFoundOf capture packets found = AllZip (IsFoundOfOpening capture packets) (openings (belongings packets)) found

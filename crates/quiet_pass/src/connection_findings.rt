@@ -1,0 +1,101 @@
+//! What is shown of a connection, said while its segments come, and of each connection of a capture.
+
+ghost use Rattle.std.specs.Prelude.{ℕ, List, IfOk, OnOk};
+ghost use Rattle.packet_heads.specs.code.Order.{AreNumberedFrom};
+ghost use Rattle.packet_heads.specs.declared.packets.Packet.{Packet};
+ghost use Rattle.packet_heads.specs.declared.packets.Segment.{Segment as Opening};
+ghost use Rattle.quiet_pass.specs.code.FoundFlows.{AreFoundOf, HasMetSent, IsFoundOfSent};
+ghost use Rattle.tcp_streams.specs.code.Opened.{AreVisited};
+ghost use Rattle.tcp_streams.specs.code.SentFlows.{HaveFlows};
+ghost use Rattle.tcp_streams.specs.code.Side.{Sent};
+
+use crate::found_visitor::{FoundCut, FoundVisitor};
+use h2_frames::ConnectionFrames;
+use packet_heads::Segment;
+use std::alloc::{AllocError, Global};
+use tcp_streams::laws::flows_are_those_sent;
+use tcp_streams::{ConnectionVisitor, FlowEnd};
+
+/// A connection while its segments come, whose frames are met as soon as their bytes are there, where credits are not
+/// shown.
+///
+/// It keeps what [`ConnectionFrames`] and the machine keep: of bytes those alone that are behind a hole, that wait for
+/// the server's number, or that begin a frame.
+#[derive(Drop)]
+pub struct ConnectionFindings {
+    frames: ConnectionFrames<FoundVisitor>,
+}
+
+/// What all segments of a connection tell.
+#[derive(Drop)]
+pub struct FoundFlows {
+    pub cut: FoundCut,
+    pub client: FlowEnd,
+    pub server: FlowEnd,
+}
+
+impl ConnectionVisitor for ConnectionFindings {
+    ghost use Rattle.std.specs.Prelude.{[], IfOk, IsOk};
+    ghost use Rattle.quiet_pass.specs.code.FoundFlows.{HasMetSent};
+
+    ghost after = { HasMetSent };
+
+    /// Takes no memory, so none is wanting.
+    fn begin(alloc: Global, opening: &Segment) -> Result<ConnectionFindings, AllocError>
+        ensures begun { IfOk result (HasMetSent opening.now [] 0) }
+        ensures answered { IsOk result }
+    {
+        Ok(ConnectionFindings {
+            frames: ConnectionFrames::begin(alloc, opening, FoundVisitor::begin(alloc)),
+        })
+    }
+
+    /// Meets the frames that the segment completes.
+    fn take(&mut self, alloc: Global, segment: &Segment, payload: &[u8]) -> Result<(), AllocError> {
+        self.frames.take(alloc, segment, payload)
+    }
+}
+
+impl ConnectionFindings {
+    /// What all its segments tell: which kind of cut the two flows have, where they end, and what is shown.
+    ///
+    /// The flows, which there are (`HaveFlows`), are those that `tcp_streams::assemble` gives of a capture in which the
+    /// payloads stand (`tcp_streams::laws::flows_are_those_sent`): so it answers what [`crate::found_connection`] does
+    /// of these, without them.
+    pub fn finish(self, alloc: Global) -> Result<FoundFlows, AllocError>
+        requires { (opening : Opening) × (sent : List Sent) × (last : ℕ) × HasMetSent opening sent last self }
+        ensures found { (opening : Opening) (sent : List Sent) (last : ℕ) → HasMetSent opening sent last self
+            → IfOk result (IsFoundOfSent opening sent) }
+        ensures flows { (opening : Opening) (sent : List Sent) (last : ℕ) → HasMetSent opening sent last self
+            → OnOk result (HaveFlows opening sent) }
+    {
+        let handed = self.frames.finish(alloc)?;
+        Ok(FoundFlows {
+            cut: handed.visitor.found(handed.ending),
+            client: handed.client,
+            server: handed.server,
+        })
+    }
+}
+
+/// What is found of each connection of a capture, in order of opening, where a stage that was handed all its packets
+/// leaves these (`tcp_streams::ConnectionStage::into_parts`).
+///
+/// Of both flows that `tcp_streams::assemble` gives of a connection, it says what [`crate::found_connection`] does, and
+/// where they end.
+pub fn found_of_each(
+    alloc: Global,
+    opened: Vec<ConnectionFindings>,
+) -> Result<Vec<FoundFlows>, AllocError>
+    requires { (capture : List ℕ) × (packets : List Packet) × AreVisited HasMetSent capture packets opened.items }
+    ensures { (capture : List ℕ) (packets : List Packet) → AreNumberedFrom 1 packets
+        → AreVisited HasMetSent capture packets opened.items
+        → IfOk result (λ found. AreFoundOf capture packets found.items) }
+{
+    flows_are_those_sent();
+    let mut found = Vec::with_capacity(alloc, opened.len())?;
+    for connection in opened {
+        found.push(connection.finish(alloc)?)?;
+    }
+    Ok(found)
+}
