@@ -28,7 +28,7 @@
 //!   full part that names no endpoints, another file than the one that is named, a later file with another link type,
 //!   a capture that is too long by its records, a flush that failed and is not reported.
 //! - `tests/` at the root compares the parts of whole captures with a model, and merges reports of parts.
-//!   `tools/tests/splitter_test.py` tests that no part is called full, and no capture too long, before its time.
+//!   `tools/tests/core/splitter_test.py` tests that no part is called full, and no capture too long, before its time.
 #![tactic(auto)]
 
 mod dealer;

@@ -1,7 +1,7 @@
-//! Captures that tests build: of one connection, from 10.0.0.1:40000 to 10.0.0.2:80.
+//! Captures that tests build, of connections of 10.0.0.1 to 10.0.0.2:80.
 
 use crate::frames::{acknowledgement, initial_window};
-use audit_terms::{Frame, Side};
+use audit_terms::{Body, Frame, Side};
 use std::alloc::{AllocError, Global};
 
 /// The file header: little-endian numbers, microseconds, version 2.4, a snapshot length of 262,144, Ethernet.
@@ -15,28 +15,23 @@ const ETHERNET: [u8; 16] = [0, 0, 0, 0, 0, 0, 0, 0, 0, 0, 0, 0, 0x08, 0x00, 0x45
 /// What stands between the total length and the addresses: no fragment, a time to live of 64, TCP.
 const TCP: [u8; 8] = [0, 0, 0, 0, 0x40, 6, 0, 0];
 
-/// The addresses and ports of a segment of the client, and of one of the server.
-const FROM_CLIENT: [u8; 12] = [10, 0, 0, 1, 10, 0, 0, 2, 0x9c, 0x40, 0, 80];
-
-const FROM_SERVER: [u8; 12] = [10, 0, 0, 2, 10, 0, 0, 1, 0, 80, 0x9c, 0x40];
-
 /// The bytes of the headers of IPv4 and TCP.
 const HEADERS: usize = 40;
 
 /// Flags of a segment.
 pub const SYN: u8 = 0x02;
 
-const SYN_ACK: u8 = 0x12;
+pub const SYN_ACK: u8 = 0x12;
 
-const ACK: u8 = 0x10;
+pub const ACK: u8 = 0x10;
 
 /// The sides' initial sequence numbers.
-const CLIENT_INITIAL: u32 = 1000;
+pub const CLIENT_INITIAL: u32 = 1000;
 
-const SERVER_INITIAL: u32 = 5000;
+pub const SERVER_INITIAL: u32 = 5000;
 
 /// The 24 bytes that a client begins with.
-const PREFACE: [u8; 24] = *b"PRI * HTTP/2.0\r\n\r\nSM\r\n\r\n";
+pub const PREFACE: [u8; 24] = *b"PRI * HTTP/2.0\r\n\r\nSM\r\n\r\n";
 
 /// A capture that grows record by record; each side keeps the sequence number of its next byte. An `Err` leaves a
 /// capture that may end within a record.
@@ -44,21 +39,29 @@ const PREFACE: [u8; 24] = *b"PRI * HTTP/2.0\r\n\r\nSM\r\n\r\n";
 pub struct Capture {
     alloc: Global,
     pub bytes: Vec<u8>,
+    /// The port of the client whose connection the next records belong to.
+    pub client_port: u16,
     records: u32,
     client_next: u32,
     server_next: u32,
 }
 
 impl Capture {
-    /// Records 1 and 2: the handshake.
-    fn opened(alloc: Global) -> Result<Capture, AllocError> {
-        let mut capture = Capture {
+    /// No record.
+    pub fn empty(alloc: Global) -> Result<Capture, AllocError> {
+        Ok(Capture {
             alloc,
             bytes: Vec::from_slice(alloc, &FILE_HEADER)?,
+            client_port: 40_000,
             records: 0,
             client_next: CLIENT_INITIAL + 1,
             server_next: SERVER_INITIAL + 1,
-        };
+        })
+    }
+
+    /// Records 1 and 2: the handshake.
+    fn opened(alloc: Global) -> Result<Capture, AllocError> {
+        let mut capture = Capture::empty(alloc)?;
         capture.record(Side::Client, CLIENT_INITIAL, SYN, &[])?;
         capture.record(Side::Server, SERVER_INITIAL, SYN_ACK, &[])?;
         Ok(capture)
@@ -90,15 +93,16 @@ impl Capture {
     ) -> Result<(), AllocError> {
         let total = payload.len().saturating_add(HEADERS);
         self.begin_record(total)?;
+        let [high, low] = self.client_port.to_be_bytes();
         let ends = match side {
-            Side::Client => &FROM_CLIENT,
-            Side::Server => &FROM_SERVER,
+            Side::Client => [10, 0, 0, 1, 10, 0, 0, 2, high, low, 0, 80],
+            Side::Server => [10, 0, 0, 2, 10, 0, 0, 1, 0, 80, high, low],
         };
         let parts: [&[u8]; 7] = [
             &ETHERNET,
             &u16::try_from(total).unwrap_or(0).to_be_bytes(),
             &TCP,
-            ends,
+            &ends,
             &seq.to_be_bytes(),
             &[0, 0, 0, 0, 0x50, flags, 0, 0, 0, 0, 0, 0],
             payload,
@@ -140,16 +144,33 @@ impl Capture {
     }
 }
 
-/// The bytes of a frame (RFC 9113, 4.1), whose payload is an increment or zeros.
-fn bytes_of(alloc: Global, frame: &Frame) -> Result<Vec<u8>, AllocError> {
+/// The bytes of a frame (RFC 9113, 4.1).
+pub fn bytes_of(alloc: Global, frame: &Frame) -> Result<Vec<u8>, AllocError> {
+    let payload = payload_of(alloc, frame)?;
+    let length = u32::try_from(payload.len()).unwrap_or(u32::MAX);
+    let [_, high, middle, low] = length.to_be_bytes();
     let mut bytes = Vec::new(alloc);
-    let [_, high, middle, low] = frame.length.get().to_be_bytes();
     bytes.extend_from_slice(&[high, middle, low, frame.code, frame.flags])?;
     bytes.extend_from_slice(&frame.stream.to_be_bytes())?;
-    if frame.body.is_update() {
-        bytes.extend_from_slice(&frame.body.increment().to_be_bytes())?;
-    } else {
-        bytes.resize(bytes.len().saturating_add(frame.length.get() as usize), 0)?;
-    }
+    bytes.extend_from_slice(payload.as_slice())?;
     Ok(bytes)
+}
+
+/// The payload of a frame: an increment, a promised stream, an initial window where there is one, or zeros.
+fn payload_of(alloc: Global, frame: &Frame) -> Result<Vec<u8>, AllocError> {
+    let mut payload = Vec::new(alloc);
+    match frame.body {
+        Body::WindowUpdate(increment) => {
+            payload.extend_from_slice(&increment.get().to_be_bytes())?;
+        }
+        Body::PushPromise(stream) => payload.extend_from_slice(&stream.get().to_be_bytes())?,
+        Body::Settings(values) => {
+            if let Some(initial) = values.settings().initial {
+                payload.extend_from_slice(&[0, 4])?;
+                payload.extend_from_slice(&initial.to_be_bytes())?;
+            }
+        }
+        _ => payload.resize(frame.length.get() as usize, 0)?,
+    }
+    Ok(payload)
 }

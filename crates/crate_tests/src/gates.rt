@@ -48,7 +48,7 @@ fn have_jobs(
 }
 
 /// A stream that uses up its credit and that of its connection, at frame 9; then an error at frame 10.
-fn stopped() -> [Frame; 8] {
+pub fn stopped() -> [Frame; 8] {
     [
         headers(5, Side::Client, 1),
         data(6, Side::Client, 1, 16384),

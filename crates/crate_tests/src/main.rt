@@ -3,21 +3,26 @@
 //!
 //! - What the calls answer is proved in their own crates, and worked out by proof in their `worked_examples`; no test
 //!   repeats an equation.
+//! - From segments to findings: that a stage over the packets of a capture, which hands segments to
+//!   `quiet_pass::ConnectionFindings`, tells what `found_connection` does of the flows, and never gives up where that
+//!   answers, also where segments of two connections come late, bring bytes again or are lost.
 //! - From frames to findings: that a look answers what another pass of the desk lowered; that a later job sees the stop
-//!   that an earlier one lowered; that for random frames `findings_of_each` and `one_pass` have an answer, where there
-//!   is memory, and the same one; and that the quiet pass gives up only where it is not empty. Contracts say how often
-//!   runs over 1,000 frames look, and what they are handed and keep; here it is in numbers that a reader can check.
+//!   that an earlier one lowered; and that for random frames `findings_of_each` and `one_pass` have an answer, where
+//!   there is memory, and the same one. Contracts say how often runs over 1,000 frames look, and what they are handed
+//!   and keep; here it is in numbers that a reader can check.
 //! - The text, and runs: the words of refused packets, and how faults print; readers and writers that go in steps or
 //!   fail; that several workers write what one does, on pages that are filled again; random keys; that two workers are
 //!   in one round of an audit at once, and how many jobs each round has. What the program answers to words and to whole
 //!   captures is tested with the program, in `tests/` at the root, and with random captures in `tools/tests/`.
-//! - It is one program, since a program takes all that stands below it anew. [`fakes`], [`frames`] and [`captures`] are
-//!   what the tests share.
+//! - It is one program, since a program takes all that stands below it anew. [`fakes`], [`frames`], [`captures`] and
+//!   [`disorder`] are what the tests share.
 #![tactic(auto)]
 
 mod captures;
 mod desks;
+mod disorder;
 mod fakes;
+mod found_ways;
 mod frames;
 mod gates;
 mod in_steps;
@@ -42,8 +47,8 @@ pub type Answer = Result<bool, AllocError>;
 /// The names of some tests, and what they answer.
 type Answers<const N: usize> = [(&'static str, Answer); N];
 
-/// Keys, texts and looks.
-fn of_parts(rt: &impl RandomSource, alloc: Global) -> Answers<6> {
+/// Keys, texts and looks, and ways to what is found.
+fn of_parts(rt: &impl RandomSource, alloc: Global) -> Answers<8> {
     [
         ("drawn_keys", keys::drawn_keys(rt)),
         ("each_kind_of_packet", texts::each_kind_of_packet(alloc)),
@@ -51,6 +56,8 @@ fn of_parts(rt: &impl RandomSource, alloc: Global) -> Answers<6> {
         ("looks_of_a_block", looks::looks_of_a_block(alloc)),
         ("looks_of_a_stream", looks::looks_of_a_stream(alloc)),
         ("looks_at_no_change", looks::looks_at_no_change(alloc)),
+        ("made_segments", found_ways::made_segments(alloc)),
+        ("random_segments", found_ways::random_segments(alloc)),
     ]
 }
 

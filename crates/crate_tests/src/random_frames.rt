@@ -1,4 +1,4 @@
-//! Random frames, by the rounds, by the plain pass and by the quiet pass.
+//! Random frames, by the rounds and by the plain pass.
 
 ghost use Rattle.std.specs.Prelude.{◌≤◌, ◌<◌};
 ghost use Rattle.audit_terms.specs.code.runs.Orderly.{IsOrderly};
@@ -13,7 +13,6 @@ use audit_rounds::{Division, findings_of_each};
 use audit_terms::frame_types::END_STREAM_FLAG;
 use audit_terms::{Finding, Frame, Side, keep_shown};
 use input_output::TableHash;
-use quiet_pass::QuietPass;
 use rand_core::Rng;
 use rand_pcg::Pcg32;
 use std::alloc::{AllocError, Global};
@@ -68,7 +67,7 @@ fn random_frame(rng: &mut Pcg32, number: u32) -> Frame {
 
 /// SETTINGS of both sides, the openings of streams 1, 2, 3 and 5, and then so many frames. A promise of stream 4 among
 /// these opens a stream out of order: then one worker goes through the rounds too, where credits are shown.
-fn script(alloc: Global, rng: &mut Pcg32, count: u32) -> Result<Vec<Frame>, AllocError>
+pub fn script(alloc: Global, rng: &mut Pcg32, count: u32) -> Result<Vec<Frame>, AllocError>
     requires { count ≤ 1000 }
 {
     let mut frames = Vec::new(alloc);
@@ -97,17 +96,6 @@ fn divided(groups: u32, block: u32, undivided: usize, frames_shown: bool) -> Div
         hash: TableHash::drawn(&NoBytes),
         frames_shown,
     }
-}
-
-/// Whether the quiet pass knows that the frames show nothing without credits.
-fn is_quiet(alloc: Global, frames: &[Frame]) -> Answer {
-    let mut pass = QuietPass::begin(alloc);
-    for frame in frames {
-        if !pass.meet(frame)? {
-            return Ok(false);
-        }
-    }
-    Ok(true)
 }
 
 /// Whether so many workers find in the frames what is wanted, by a division.
@@ -139,8 +127,7 @@ fn finds(
     Ok(found.len() == 1 && joined.as_slice() == want)
 }
 
-/// Whether each division shows of the frames what the plain pass does, with credits and without, and the quiet pass
-/// knows whether that is nothing.
+/// Whether each division shows of the frames what the plain pass does, with credits and without.
 fn shows_the_pass(rt: &(impl Sync + Threads), alloc: Global, frames: &[Frame]) -> Answer {
     if !are_orderly(frames) {
         return Ok(false);
@@ -159,7 +146,7 @@ fn shows_the_pass(rt: &(impl Sync + Threads), alloc: Global, frames: &[Frame]) -
             return Ok(false);
         }
     }
-    Ok(is_quiet(alloc, frames)? == want.is_empty())
+    Ok(true)
 }
 
 pub fn random_frames(rt: &(impl Sync + Threads), alloc: Global) -> Answer {

@@ -18,7 +18,7 @@ use Rattle.h2_frames.specs.Cut as h2
 use Rattle.h2_frames.specs.code.Orderly.{HasOrderlyFrames}
 use Rattle.h2_frames.specs.declared.cuts.Cut.{Cut}
 use Rattle.h2_frames.specs.declared.cuts.Cut.TheVariants.{Http2, NotHttp2, NoPreface, NoHandshake}
-use Rattle.h2audit.specs.Audited.{IsFlowFrom}
+use Rattle.tcp_streams.specs.{Flow.IsFlowFrom}
 use Rattle.h2audit.specs.code.Flows.{AreToldFlows, FlowView, IsHeldBy, IsToldFlows, KeepsCut, KeepsFound}
 use Rattle.h2audit.specs.code.Flows.{flow_job, flow_jobs}
 use Rattle.quiet_pass.specs.code.FoundConnections.{IsFoundOf}

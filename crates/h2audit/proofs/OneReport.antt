@@ -31,7 +31,8 @@ use Rattle.tcp_streams.specs.declared.members.Connection.{Connection}
 use Rattle.tcp_streams.specs.declared.flows.Flow.{Flow}
 use Rattle.tcp_streams.proofs.Belongings.{connections-shown}
 use Rattle.tcp_streams.proofs.UniqueFlow.{IsFlow-unique}
-use Rattle.h2audit.specs.Audited.{AreAudited, IsAudited, IsFlowFrom, findings_of, has_fault}
+use Rattle.h2audit.specs.Audited.{AreAudited, IsAudited, findings_of, has_fault}
+use Rattle.tcp_streams.specs.{Flow.IsFlowFrom}
 use Rattle.h2audit.specs.laws.OneReport.{OneReport}
 use Rattle.h2audit.specs.declared.verdict.Verdict.TheVariants.{Clean, Faults}
 

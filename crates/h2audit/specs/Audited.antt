@@ -1,5 +1,5 @@
 -- The audit of one connection.
-use Rattle.std.specs.Prelude.{◌≡◌, ℕ, Bool, false, if◌then◌else◌, List, [], Option, None, Some, IsTrue}
+use Rattle.std.specs.Prelude.{◌≡◌, ℕ, Bool, if◌then◌else◌, List, []}
 use Rattle.std.specs.List.{AllZip, list_any}
 use Rattle.audit_terms.specs.declared.sides.Side.{Side}
 use Rattle.audit_terms.specs.declared.sides.Side.TheVariants.{Client, Server}
@@ -8,13 +8,10 @@ use Rattle.audit_terms.specs.Kind.{is_fault}
 use Rattle.audit_terms.specs.Finding.{shown}
 use Rattle.audit_terms.specs.Pass.{pass}
 use Rattle.packet_heads.specs.declared.packets.Packet.{Packet}
-use Rattle.packet_heads.specs.declared.packets.Segment.{Segment}
 use Rattle.tcp_streams.specs.declared.members.Connection.{Connection}
 use Rattle.tcp_streams.specs.declared.flows.Flow.{Flow}
-use Rattle.tcp_streams.specs.Bytes.{bytes_of}
-use Rattle.tcp_streams.specs.Flow.{IsFlow}
+use Rattle.tcp_streams.specs.Flow.{IsFlowFrom}
 use Rattle.tcp_streams.specs.Members.{initial_of, side_segments}
-use Rattle.tcp_streams.specs.Sequence.{source}
 use Rattle.h2_frames.specs.declared.cuts.Cut.{Cut}
 use Rattle.h2_frames.specs.declared.cuts.Cut.TheVariants.{Http2}
 use Rattle.h2_frames.specs.Cut.{IsCut}
@@ -23,13 +20,6 @@ use Rattle.audit_report.specs.FlowLine.{extents_of}
 use Rattle.audit_terms.specs.declared.sides.Sides.{Sides}
 use Rattle.h2audit.specs.declared.verdict.Verdict.{Verdict}
 use Rattle.h2audit.specs.declared.verdict.Verdict.TheVariants.{Clean, Faults}
-
--- the flow of segments, from the initial sequence number on; without such a number it is empty and not started
-abbrev pub IsFlowFrom : Option ℕ → List ℕ → List Segment → Flow → Type 0
-IsFlowFrom (Some isn) capture segments flow =
-    IsTrue flow.started × IsFlow capture (source isn segments) (bytes_of flow) flow.arrivals.items flow.gap
-IsFlowFrom None capture segments flow =
-    (flow.started ≡ false) × (flow.pieces.items ≡ []) × (flow.arrivals.items ≡ []) × (flow.gap ≡ None)
 
 -- the flow of a side of a connection
 abbrev pub IsFlowOf : List ℕ → List Packet → Connection → Side → Flow → Type 0

@@ -4,8 +4,8 @@
 //! - `split_program` says what it does, for every answer of the outside, and `capture_parts` which record goes to which
 //!   part.
 //! - What is handed over here is trusted: each method of `Host` makes the one call that it is named for.
-//! - Tested, in `tests/` and `tools/tests/splitter_test.py` at the root: the texts of help and of refused words; the
-//!   parts of whole captures, beside a model; reports of parts, merged; files and folders of a real disk.
+//! - Tested, in `tests/` and `tools/tests/core/splitter_test.py` at the root: the texts of help and of refused words;
+//!   the parts of whole captures, beside a model; reports of parts, merged; files and folders of a real disk.
 #![tactic(auto)]
 
 ghost use Rattle.std.specs.Prelude.{⊤};

@@ -9,7 +9,7 @@
 //! - Not told: what else words ask for, and the texts of most lines.
 //! - The prover refuses: a refused part with status 0, parts that are left after a failure, another number of parts,
 //!   another folder, buffers of another size.
-//! - Tested at the root: `tests/split_test.py` and `tools/tests/splitter_test.py`.
+//! - Tested at the root: `tests/split_test.py` and `tools/tests/core/splitter_test.py`.
 #![tactic(auto)]
 
 mod asked;
