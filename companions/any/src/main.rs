@@ -12,7 +12,9 @@ use std::path::Path;
 
 use import::{Bounds, Sink};
 use originals::{bring_back, no_report, Keeping, Original, Shown};
-use programs::{end_cleanly, print, program_named, run, say, Audit, Failure, Input, Outcome, Output, PrivateFile};
+use programs::{
+    end_cleanly, print, program_named, run, say, Audit, Failure, Input, Outcome, Output, PrivateFile, Progress,
+};
 
 use parts::PartPrograms;
 use words::{words_of, Audited, Words};
@@ -52,8 +54,14 @@ fn of_original(map: &Path, rows: Option<&Path>) -> Outcome {
     }
     rows.map_or(Ok(()), Output::finish)?;
     say_back(&original);
-    let status = if shown.has_faults { FAULTS } else { NO_FAULTS };
-    Ok(ending(&original, status))
+    Ok(ending(&original, status_of(&shown)))
+}
+
+fn status_of(shown: &Shown) -> i32 {
+    match shown.has_faults {
+        true => FAULTS,
+        false => NO_FAULTS,
+    }
 }
 
 /// Imports, audits, and prints the report of the original.
@@ -67,10 +75,13 @@ fn audited(asked: &Audited) -> Outcome {
     let capture = made.path()?;
     let mut rows = asked.rows.as_deref().map(Output::begin).transpose()?;
     let status = match part_programs {
-        None => of_audit(Audit::start(&program, &asked.options, &capture)?, &mut original, rows.as_mut())?,
+        None => {
+            let audit = Audit::start(&program, &asked.options, &capture)?;
+            of_audit("auditing", audit, &mut original, rows.as_mut())?
+        }
         Some((found, parts)) => {
             let parts = found.audit(&program, &asked.options, parts, &capture)?;
-            match of_audit(parts.merging, &mut original, rows.as_mut())? {
+            match of_audit("merging", parts.merging, &mut original, rows.as_mut())? {
                 status if status > FAULTS => return Err(parts::as_ours(parts::MERGE, status, "")),
                 _ if !parts.is_whole => CAPTURE_REFUSED,
                 status => status,
@@ -86,17 +97,27 @@ fn audited(asked: &Audited) -> Outcome {
 /// Makes the capture that is audited, and answers what brings its report back to the original.
 fn made_of(asked: &Audited, files: &[OsString], made: &mut PrivateFile) -> Result<Original, Failure> {
     let mut keeping = Keeping::default();
+    keeping.shows_joined = asked.is_joined;
     let mut sink = Sink::new(made, &mut keeping)?;
-    let Audited { key_logs, is_reordered, .. } = asked;
-    let (is_reordered, is_joined, bounds) = (*is_reordered, false, Bounds::default());
-    let import = import::Asked { program: NAME, files, key_logs, is_reordered, is_joined, bounds, can_repeat: true };
+    let Audited { key_logs, is_reordered, is_joined, .. } = asked;
+    let (is_reordered, is_joined, bounds) = (*is_reordered, *is_joined, Bounds::default());
+    let import =
+        import::ImportOptions { program: NAME, files, key_logs, is_reordered, is_joined, bounds, can_repeat: true };
     import::imported(&import, &mut sink, None)?;
     drop(sink);
     Ok(keeping.original)
 }
 
 /// Prints the report of an audit, and answers the status of what audits.
-fn of_audit(audit: Audit, original: &mut Original, rows: Option<&mut Output>) -> Result<i32, Failure> {
+fn of_audit(
+    doing: &'static str,
+    mut audit: Audit,
+    original: &mut Original,
+    rows: Option<&mut Output>,
+) -> Result<i32, Failure> {
+    let _progress = Progress::begin(NAME, doing, None);
+    // Its first bytes come once all is read, and nothing is written before. An error comes again where it is read.
+    let _ = audit.report.fill_buf();
     let shown = match write(audit.report, original, rows) {
         Ok(shown) => shown,
         Err(failure) => {
@@ -109,6 +130,8 @@ fn of_audit(audit: Audit, original: &mut Original, rows: Option<&mut Output>) ->
     };
     match audit.running.status()? {
         NO_FAULTS | FAULTS if !shown.is_there => Err(no_report()),
+        // What is not claimed of connections that are joined is no fault.
+        NO_FAULTS | FAULTS => Ok(status_of(&shown)),
         status => Ok(status),
     }
 }

@@ -14,7 +14,7 @@ use std::time::Duration;
 use std::{io, thread};
 
 use programs::{
-    beside_or_in_path, printable, say, temporary_failure, Audit, Cleanup, Failure, Guard, Running, H2AUDIT,
+    beside_or_in_path, printable, say, temporary_failure, Audit, Cleanup, Failure, Guard, Progress, Running, H2AUDIT,
 };
 
 use crate::NAME;
@@ -53,11 +53,12 @@ impl PartPrograms {
         audit_parts(program, options, &folder)?;
         let mut merge = Command::new(&self.merge);
         merge.arg(&folder).args((!is_whole).then_some("--standing"));
-        Ok(Parts { merging: Audit::of(&mut merge)?, is_whole, _folder: guard })
+        Ok(Parts { merging: Audit::start_telling(&mut merge)?, is_whole, _folder: guard })
     }
 
     /// Splits a capture, and says whether all parts stand; those that were refused are named on standard error.
     fn split(&self, parts: u64, folder: &Path, capture: &Path) -> Result<bool, Failure> {
+        let _splitting = Progress::begin(NAME, "splitting", None);
         let said_to = folder.with_file_name("said");
         let file = File::create(&said_to).map_err(|error| Failure::of_file(&said_to, &error))?;
         let mut split = Command::new(&self.split);
@@ -92,31 +93,24 @@ fn private_folder() -> Result<(Guard, PathBuf), Failure> {
 
 /// Makes the report of each part, beside it.
 fn audit_parts(program: &OsStr, options: &[String], folder: &Path) -> Result<(), Failure> {
-    let failed = |error: io::Error| Failure::of_file(folder, &error);
-    let mut waiting = VecDeque::new();
-    for entry in fs::read_dir(folder).map_err(failed)? {
-        let path = entry.map_err(failed)?.path();
-        if path.extension() == Some(OsStr::new("pcap")) {
-            waiting.push_back(path);
-        }
-    }
-    waiting.make_contiguous().sort();
+    let mut waiting = VecDeque::from(parts_in(folder).map_err(|error| Failure::of_file(folder, &error))?);
+    let _auditing = Progress::begin(NAME, "auditing", Some(waiting.iter().map(|(_, size)| size).sum()));
     let most = thread::available_parallelism().map_or(1, |count| count.get());
-    let mut running: Vec<Running> = Vec::new();
+    let mut running: Vec<(Running, u64)> = Vec::new();
     while !waiting.is_empty() || !running.is_empty() {
         while running.len() < most {
             match waiting.pop_front() {
-                Some(part) => running.push(audit_part(program, options, &part)?),
+                Some((part, size)) => running.push((audit_part(program, options, &part)?, size)),
                 None => break,
             }
         }
         thread::sleep(TICK);
         let mut still = Vec::new();
-        for audit in running {
+        for (audit, size) in running {
             match audit.ended()? {
-                None => still.push(audit),
+                None => still.push((audit, size)),
                 Some(status) => match audit.code(status)? {
-                    0 | 1 => {}
+                    0 | 1 => Progress::add(size),
                     other => return Err(as_ours(H2AUDIT, other, "")),
                 },
             }
@@ -126,12 +120,26 @@ fn audit_parts(program: &OsStr, options: &[String], folder: &Path) -> Result<(),
     Ok(())
 }
 
+/// Parts and their sizes.
+fn parts_in(folder: &Path) -> io::Result<Vec<(PathBuf, u64)>> {
+    let mut parts = Vec::new();
+    for entry in fs::read_dir(folder)? {
+        let path = entry?.path();
+        if path.extension() == Some(OsStr::new("pcap")) {
+            let size = fs::metadata(&path)?.len();
+            parts.push((path, size));
+        }
+    }
+    parts.sort();
+    Ok(parts)
+}
+
 fn audit_part(program: &OsStr, options: &[String], part: &Path) -> Result<Running, Failure> {
     let path = part.with_extension("report");
     let report = File::create(&path).map_err(|error| Failure::of_file(&path, &error))?;
     let mut command = Command::new(program);
     command.args(options).arg(part).stdout(Stdio::from(report));
-    Running::start(&mut command).map(|(running, _)| running)
+    Running::start_telling(&mut command).map(|(running, _)| running)
 }
 
 /// Goes on as if the program's failure were this one's: statuses of all programs mean the same.

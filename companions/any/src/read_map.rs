@@ -3,7 +3,7 @@
 use std::io::{BufRead, BufReader};
 use std::path::Path;
 
-use originals::{Became, Connection, Original, Other, SideRead};
+use originals::{Became, Joined, Original, OriginalConnection, Other, SideRead};
 use programs::{printable, Failure, Input};
 use reports::maps::{MapError, MapLine, MapReader};
 use reports::Capture;
@@ -18,8 +18,7 @@ pub fn read_map(path: &Path) -> Result<Original, Failure> {
     match reading.read(input) {
         Ok(()) => {}
         Err(Broken::Io(error)) => return Err(Failure::of_file(path, &error)),
-        Err(Broken::NoMap) => return Err(no_map("no map of h2audit-import, version 1")),
-        Err(Broken::Joined) => return Err(no_map(&MapError::Version(2).to_string())),
+        Err(Broken::NoMap) => return Err(no_map("no map of h2audit-import, version 1 or 2")),
     }
     match reading.files {
         1 => Ok(reading.original),
@@ -29,7 +28,6 @@ pub fn read_map(path: &Path) -> Result<Original, Failure> {
 
 enum Broken {
     NoMap,
-    Joined,
     Io(std::io::Error),
 }
 
@@ -37,7 +35,6 @@ impl From<MapError> for Broken {
     fn from(error: MapError) -> Broken {
         match error {
             MapError::Io(error) => Broken::Io(error),
-            MapError::Version(2) => Broken::Joined,
             _ => Broken::NoMap,
         }
     }
@@ -51,17 +48,34 @@ struct Reading {
     has_counts: bool,
     /// How many packets are too late to be put in order, where that was asked for.
     left: Option<u64>,
-    connection: Option<Told>,
+    connection: Option<ConnectionLines>,
 }
 
 /// The connection whose lines come.
-struct Told {
+struct ConnectionLines {
     opening: u64,
     began: Began,
     /// The flows so far.
     sides: Vec<SideRead>,
     fragments: u64,
     last: Option<i64>,
+    /// How it was joined, if it was.
+    joined: Vec<String>,
+}
+
+impl ConnectionLines {
+    /// A line behind the first.
+    fn take(&mut self, words: &[&str]) -> Option<()> {
+        match *words.first()? {
+            "flow" => {
+                let (tail, end) = (words.get(7)?.parse().ok()?, words.get(9)?.to_string());
+                self.sides.push(SideRead { has_gap: *words.get(5)? != "none", tail, end });
+            }
+            "fragments" => self.fragments = words.get(1)?.parse().ok()?,
+            _ => self.last = Some(words.get(6)?.parse().ok()?),
+        }
+        Some(())
+    }
 }
 
 enum Began {
@@ -73,7 +87,7 @@ enum Began {
 impl Reading {
     /// Takes all lines; an error where they are no map, or not all of one.
     fn read(&mut self, input: impl BufRead) -> Result<(), Broken> {
-        let mut reader = MapReader::new(input)?;
+        let mut reader = MapReader::with_joined(input)?;
         let mut is_whole = true;
         while let Some(line) = reader.next_line()? {
             match line {
@@ -110,24 +124,9 @@ impl Reading {
                 self.original.capture = Capture::of(text)?;
                 self.has_counts = true;
             }
-            "connection" => {
-                self.enter()?;
-                let began = match *words.get(9)? {
-                    "clear" => Began::Clear,
-                    "tls" => Began::Tls,
-                    "refused" => Began::Refused(words.get(10..)?.join(" ")),
-                    _ => return None,
-                };
-                self.connection =
-                    Some(Told { opening: number(8)?, began, sides: Vec::new(), fragments: 0, last: None });
-            }
-            "flow" => {
-                let end = words.get(9)?.to_string();
-                let side = SideRead { has_gap: *words.get(5)? != "none", tail: number(7)?, end };
-                self.connection.as_mut()?.sides.push(side);
-            }
-            "fragments" => self.connection.as_mut()?.fragments = number(1)?,
-            "last" => self.connection.as_mut()?.last = Some(words.get(6)?.parse().ok()?),
+            "connection" => self.begin(&words)?,
+            "flow" | "fragments" | "last" => self.connection.as_mut()?.take(&words)?,
+            _ if import::is_of_joined(text) => self.connection.as_mut()?.joined.push(text.to_string()),
             "reordered" => self.left = Some(number(6)?),
             "back" => self.original.back = Some(import::times_go_back(number(4)?, number(8)?, self.left)),
             "other" => {
@@ -139,7 +138,21 @@ impl Reading {
         Some(Ok(()))
     }
 
-    /// The connection whose lines came is whole: of TLS its client's flow comes first, and both are there.
+    /// The first line of a connection.
+    fn begin(&mut self, words: &[&str]) -> Option<()> {
+        self.enter()?;
+        let began = match *words.get(9)? {
+            "clear" => Began::Clear,
+            "tls" => Began::Tls,
+            "refused" => Began::Refused(words.get(10..)?.join(" ")),
+            _ => return None,
+        };
+        let (opening, sides, joined) = (words.get(8)?.parse().ok()?, Vec::new(), Vec::new());
+        self.connection = Some(ConnectionLines { opening, began, sides, fragments: 0, last: None, joined });
+        Some(())
+    }
+
+    /// The connection whose lines came is whole: the flow of a TLS client comes first, and both are there.
     fn enter(&mut self) -> Option<()> {
         if let Some(told) = self.connection.take() {
             let became = match told.began {
@@ -148,7 +161,11 @@ impl Reading {
                 Began::Tls => Became::Read(told.sides.try_into().ok()?),
             };
             let (fragments, last) = (told.fragments, told.last);
-            self.original.add_connection(told.opening, Connection { became, fragments, last });
+            self.original.add_connection(told.opening, OriginalConnection { became, fragments, last });
+            if !told.joined.is_empty() {
+                let import::JoinedLines { how, bytes, is_one_way } = import::joined_said(&told.joined)?;
+                self.original.add_joined(told.opening, Joined::of(&how, bytes, is_one_way, told.joined));
+            }
         }
         Some(())
     }
@@ -190,18 +207,18 @@ mod tests {
         frame 2 record 9 time 8 server connection-stall-begin stream 0 value 0\n\
         stall server stream 1 from 1 to 2 nanos 2\nstall server stream 0 from 2 open\naudit stopped at frame 2\n\
         connection 2 client 10.0.0.1:1 server 10.0.0.2:2 record 4 refused no-key\n";
-    const ROWS: &str = r#"h2audit-rows 1
+    const ROWS: &str = r#"h2audit-rows 3
 ["captures",9,8,0,0,1,0,0]
 ["passed_over",3,"fragment"]
-["unopened",1,"[2001:db8::1]:9","10.0.0.2:2",4]
-["findings",1,1,1,9,5,"client","stream-overrun",1,-5,"client"]
-["findings",1,2,1,9,5,"server","stream-stall-begin",1,0,"nobody"]
-["findings",1,3,2,9,7,"server","stream-stall-end",1,9,"nobody"]
-["findings",1,4,2,9,8,"server","connection-stall-begin",0,0,"nobody"]
-["stalls",1,5,"server",1,1,2,2,"client"]
-["stalls",1,6,"server",0,2,null,12,"client"]
-["connections",1,"[2001:db8::1]:1","10.0.0.2:2",1,"http2",2,9,null,6,null,7,7,0,"no-key",2]
-["connections",2,"10.0.0.1:1","10.0.0.2:2",4,"refused no-key",null,null,null,null,null,null,null,null,null,null]
+["unopened",1,"[2001:db8::1]:9","10.0.0.2:2",4,null]
+["findings",1,1,1,9,5,"client","stream-overrun",1,-5,"client",null]
+["findings",1,2,1,9,5,"server","stream-stall-begin",1,0,"nobody",null]
+["findings",1,3,2,9,7,"server","stream-stall-end",1,9,"nobody",null]
+["findings",1,4,2,9,8,"server","connection-stall-begin",0,0,"nobody",null]
+["stalls",1,5,"server",1,1,2,2,"client",null]
+["stalls",1,6,"server",0,2,null,12,"client",null]
+["connections",1,"[2001:db8::1]:1","10.0.0.2:2",1,"http2",2,9,null,6,null,7,7,0,"no-key",2,null]
+["connections",2,"10.0.0.1:1","10.0.0.2:2",4,"refused no-key",null,null,null,null,null,null,null,null,null,null,null]
 "#;
 
     /// The report of the original and its rows, where map and report are some.

@@ -28,6 +28,8 @@ pub struct Audited {
     pub key_logs: Vec<OsString>,
     pub is_sorted: bool,
     pub is_reordered: bool,
+    /// Whether connections that began before the capture are joined.
+    pub is_joined: bool,
     /// h2audit's.
     pub options: Vec<String>,
     pub parts: Option<u64>,
@@ -51,6 +53,7 @@ pub fn words_of(words: Vec<OsString>) -> Result<Words, Failure> {
             }
             Long("sort") => asked.is_sorted = true,
             Long("reorder") => asked.is_reordered = true,
+            Long("joined") => asked.is_joined = true,
             Long("workers") => workers = Some(count(&mut parser, "--workers", MOST_WORKERS)?),
             Long("groups") => groups = Some(count(&mut parser, "--groups", MOST_GROUPS)?),
             Long("block") => block = Some(count(&mut parser, "--block", MOST_FRAMES)?),
@@ -80,8 +83,8 @@ pub fn words_of(words: Vec<OsString>) -> Result<Words, Failure> {
 impl Audited {
     fn is_empty(&self) -> bool {
         let has_words = !self.files.is_empty() || !self.key_logs.is_empty() || !self.options.is_empty();
-        let has_order = self.is_sorted || self.is_reordered;
-        !has_words && !has_order && self.parts.is_none() && self.program.is_none()
+        let has_reading = self.is_sorted || self.is_reordered || self.is_joined;
+        !has_words && !has_reading && self.parts.is_none() && self.program.is_none()
     }
 }
 

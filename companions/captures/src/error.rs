@@ -1,19 +1,21 @@
 //! Why a capture could not be read.
 
-use std::borrow::Cow;
 use std::{fmt, io};
+
+use crate::refusal::Refusal;
 
 #[derive(Debug)]
 pub enum Error {
-    /// The capture is refused, with the name of the refusal (docs/STATUS.md).
-    Refused(Cow<'static, str>),
+    /// The capture is refused.
+    Refused(Refusal),
     /// The system could not open or read it.
     Io(io::Error),
 }
 
 impl Error {
+    /// The capture is refused, by this name of a refusal (docs/STATUS.md).
     pub fn refused(name: &'static str) -> Error {
-        Error::Refused(Cow::Borrowed(name))
+        Error::Refused(Refusal::named(name))
     }
 }
 
@@ -26,7 +28,7 @@ impl From<io::Error> for Error {
 impl fmt::Display for Error {
     fn fmt(&self, out: &mut fmt::Formatter<'_>) -> fmt::Result {
         match self {
-            Error::Refused(name) => write!(out, "capture refused: {name}"),
+            Error::Refused(refusal) => refusal.fmt(out),
             Error::Io(error) => error.fmt(out),
         }
     }

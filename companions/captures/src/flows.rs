@@ -95,6 +95,18 @@ impl Flow {
         self.lost.or_else(|| Some(first()?.0.arrival))
     }
 
+    /// What is held behind a hole costs so many bytes.
+    #[inline]
+    pub fn cost(&self) -> usize {
+        self.held.as_ref().map_or(0, |held| held.cost)
+    }
+
+    /// A hole is not waited for any longer.
+    pub fn lose(&mut self) {
+        self.lost = self.behind_hole();
+        self.held = None;
+    }
+
     /// The bytes that are in order now.
     #[inline]
     pub fn add<'a>(&mut self, offset: u32, data: &'a [u8], arrival: Arrival) -> Cow<'a, [u8]> {
@@ -107,9 +119,8 @@ impl Flow {
             self.hold(offset, data, arrival);
             return Cow::Borrowed(&[]);
         }
-        if let Some(held) = self.held.take() {
-            let turn = held.count;
-            return Cow::Owned(self.joined(held, Active { turn, offset, data: Cow::Borrowed(data) }));
+        if self.held.is_some() {
+            return Cow::Owned(self.fill(offset, data));
         }
         let fresh = &data[(self.next - offset) as usize..];
         self.next = end;
@@ -127,9 +138,16 @@ impl Flow {
         held.count += 1;
         held.cost += data.len() + COST_OF_A_PIECE;
         if held.cost > MOST_HELD {
-            self.lost = self.behind_hole();
-            self.held = None;
+            self.lose();
         }
+    }
+
+    /// What a segment gives that fills a hole.
+    #[inline(never)]
+    fn fill(&mut self, offset: u32, data: &[u8]) -> Vec<u8> {
+        let held = self.held.take().unwrap_or_default();
+        let turn = held.count;
+        self.joined(held, Active { turn, offset, data: Cow::Borrowed(data) })
     }
 
     /// What a segment that fills a hole gives with the pieces behind it: of each byte the first arrival's.

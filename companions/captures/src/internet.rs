@@ -3,11 +3,15 @@
 //! The rules for IPv4 are h2audit's, step for step (docs/AUDIT_RULES.md, 2). A segment of IPv6 becomes one of IPv4
 //! here, between addresses that stand for its own, so that nothing behind this knows of IPv6.
 
+mod segment;
+
 use crate::bytes::{array_at, u16_at, u32_at};
 use crate::error::Error;
 use crate::link_layers::{payload_of, IPV4_TYPE, IPV6_TYPE};
 use crate::packets::Packet;
 use crate::stand_ins::StandIns;
+
+pub use segment::{swapped, Ends, HeldSegment, InIpv4, Segment};
 
 /// Flags of a segment.
 pub mod flags {
@@ -32,93 +36,6 @@ const SHIM6: u8 = 140;
 const IPV4_HEADER: usize = 20;
 const IPV6_HEADER: usize = 40;
 const TCP_HEADER: usize = 20;
-
-/// Source and destination address, source and destination port.
-pub type Ends = [u8; 12];
-
-/// The ends of what the other side sends.
-#[inline]
-pub fn swapped(ends: &Ends) -> Ends {
-    let mut other = [0; 12];
-    other[..4].copy_from_slice(&ends[4..8]);
-    other[4..8].copy_from_slice(&ends[..4]);
-    other[8..10].copy_from_slice(&ends[10..]);
-    other[10..].copy_from_slice(&ends[8..10]);
-    other
-}
-
-/// A TCP segment in its IPv4 datagram.
-#[derive(Clone, Copy, Debug)]
-pub struct Segment<'a> {
-    pub ends: Ends,
-    pub sequence: u32,
-    pub acknowledgement: u32,
-    pub flags: u8,
-    pub window: u16,
-    /// Of the datagram of IPv4; 0 of IPv6, which has none.
-    pub identification: u16,
-    /// Where the payload begins and ends in the datagram.
-    pub start: usize,
-    pub end: usize,
-    /// How many bytes the datagram had.
-    pub original: u32,
-    pub is_snapped: bool,
-    /// Where the segment begins in the datagram.
-    pub tcp: usize,
-    front: [u8; IPV4_HEADER],
-    front_length: usize,
-    rest: &'a [u8],
-}
-
-impl<'a> Segment<'a> {
-    /// The datagram, in two parts.
-    #[inline]
-    pub fn datagram(&self) -> [&[u8]; 2] {
-        [&self.front[..self.front_length], self.rest]
-    }
-
-    #[inline]
-    pub fn datagram_length(&self) -> usize {
-        self.front_length + self.rest.len()
-    }
-
-    /// The bytes of the datagram before the payload.
-    #[inline]
-    pub fn headers(&self) -> [&[u8]; 2] {
-        [&self.front[..self.front_length], &self.rest[..self.start - self.front_length]]
-    }
-
-    #[inline]
-    pub fn payload(&self) -> &'a [u8] {
-        &self.rest[self.start - self.front_length..self.end - self.front_length]
-    }
-
-    #[inline]
-    pub fn has_payload(&self) -> bool {
-        self.end > self.start
-    }
-
-    /// A copy that may be kept.
-    pub fn held(&self) -> HeldSegment {
-        let mut bytes = Vec::with_capacity(self.datagram_length());
-        self.datagram().iter().for_each(|part| bytes.extend_from_slice(part));
-        HeldSegment { fields: Segment { front_length: 0, rest: &[], ..*self }, bytes: bytes.into_boxed_slice() }
-    }
-}
-
-/// A segment with bytes of its own.
-#[derive(Debug)]
-pub struct HeldSegment {
-    fields: Segment<'static>,
-    bytes: Box<[u8]>,
-}
-
-impl HeldSegment {
-    #[inline]
-    pub fn segment(&self) -> Segment<'_> {
-        Segment { rest: &self.bytes, ..self.fields }
-    }
-}
 
 /// Why a packet has no segment.
 #[derive(Clone, Copy, Debug, PartialEq, Eq)]
@@ -172,6 +89,15 @@ impl Decoder {
         }
     }
 
+    /// The segment of a packet in which this found one before: of IPv4 not all rules are looked at again.
+    #[inline]
+    pub fn again<'a>(&mut self, packet: &Packet<'a>) -> Option<Segment<'a>> {
+        match InIpv4::again(packet) {
+            Some(found) => Some(Segment::of_ipv4(&found)),
+            None => self.segment(packet).ok()?.ok(),
+        }
+    }
+
     /// Whether addresses were met that have a stand-in since [`Decoder::take_addresses`].
     pub fn has_addresses(&self) -> bool {
         self.stand_ins.has_new()
@@ -182,6 +108,7 @@ impl Decoder {
         self.stand_ins.take_new()
     }
 
+    #[inline]
     fn ipv4<'a>(&mut self, data: &'a [u8], start: usize, original: u32) -> Decoded<'a> {
         let datagram = &data[start..];
         let captured = datagram.len();
@@ -213,7 +140,7 @@ impl Decoder {
         let end = if 0 < total && total < captured { total } else { captured };
         let is_snapped = total > captured || total == 0 && data.len() < original as usize;
         let original = original.saturating_sub(start as u32);
-        let found = Found { front: None, rest: datagram, at: header, end, original, is_snapped };
+        let found = Datagram { front: None, rest: datagram, at: header, end, original, is_snapped };
         Ok(found.segment(u16_at(datagram, 4)))
     }
 
@@ -270,7 +197,7 @@ impl Decoder {
         front[16..].copy_from_slice(&target);
         let rest = &data[at.min(data.len())..end.min(data.len())];
         let length = IPV4_HEADER + rest.len();
-        let found = Found {
+        let found = Datagram {
             front: Some(front),
             rest,
             at: IPV4_HEADER,
@@ -309,7 +236,7 @@ fn not_tcp(protocol: u8, rest: &[u8]) -> PassedOver {
 }
 
 /// A datagram, and where in it a segment begins and ends.
-struct Found<'a> {
+struct Datagram<'a> {
     front: Option<[u8; IPV4_HEADER]>,
     rest: &'a [u8],
     at: usize,
@@ -318,7 +245,8 @@ struct Found<'a> {
     is_snapped: bool,
 }
 
-impl<'a> Found<'a> {
+impl<'a> Datagram<'a> {
+    #[inline(always)] // it is large, and not moved then
     fn segment(self, identification: u16) -> Result<Segment<'a>, PassedOver> {
         let front_length = self.front.map_or(0, |front| front.len());
         let room = self.end.saturating_sub(self.at);

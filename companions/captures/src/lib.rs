@@ -1,5 +1,6 @@
 //! Captures as people have them: packets of pcap and pcapng files, as they stand or compressed, and the TCP segments in
-//! them. The one reader of captures of all programs beside h2audit.
+//! them. All programs beside h2audit read captures by it; h2audit-merge, which looks for single records, and
+//! h2audit-comment, which copies them, go over the records of a pcap file by themselves.
 //!
 //! # To read a capture
 //!
@@ -25,6 +26,8 @@
 //! borrowed from the source's window until the next one is asked for: nothing is copied, and memory stays bounded by the
 //! largest packet. Memory grows only as bytes come, whatever a length in a file says.
 //!
+//! [`pcap::Records`] finds records of a pcap file once more, by where they stood.
+//!
 //! # To copy a capture
 //!
 //! [`pcap::Reader`] and [`pcapng::Blocks`] give the records and blocks as they stand, [`pcapng::is_numbered`] says which
@@ -44,6 +47,7 @@
 mod bytes;
 mod dropped;
 mod error;
+mod file_view;
 mod flows;
 mod gzip;
 mod internet;
@@ -52,14 +56,17 @@ mod made;
 mod packets;
 pub mod pcap;
 pub mod pcapng;
+mod refusal;
 mod source;
 mod stand_ins;
 
 pub use bytes::Order;
 pub use error::Error;
+pub use file_view::FileView;
 pub use flows::{offset_of, placed, Arrival, Flow, END_OF_OFFSETS, MOST_HELD};
-pub use internet::{flags, swapped, Decoder, Ends, Fragment, HeldSegment, PassedOver, Segment};
+pub use internet::{flags, swapped, Decoder, Ends, Fragment, HeldSegment, InIpv4, PassedOver, Segment};
 pub use link_layers::{is_read, RAW};
 pub use made::{made_headers, MADE_HEADERS};
-pub use packets::{Item, Packet, Reader, MOST_CAPTURED};
+pub use packets::{Format, Item, Packet, Reader, MOST_CAPTURED};
+pub use refusal::Refusal;
 pub use source::{Source, STANDARD_INPUT};

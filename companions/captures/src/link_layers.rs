@@ -45,6 +45,7 @@ pub fn payload_of(link: u16, data: &[u8]) -> Result<Payload, &'static str> {
 }
 
 /// Type and place of what stands behind any VLAN tags.
+#[inline]
 fn after_tags(data: &[u8], mut kind: u16, mut at: usize) -> Result<Payload, &'static str> {
     while VLAN_TAGS.contains(&kind) {
         if data.len() < at + 4 {

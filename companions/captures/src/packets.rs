@@ -3,6 +3,7 @@
 use crate::error::Error;
 use crate::pcap;
 use crate::pcapng;
+use crate::refusal::{Refusal, LOOKED_AT};
 use crate::source::Source;
 
 /// No capture has packets of more bytes; of one that claims to, none is kept.
@@ -29,6 +30,24 @@ pub enum Item<'a> {
     Cut,
 }
 
+/// The two formats of captures.
+#[derive(Clone, Copy, Debug)]
+pub enum Format {
+    Pcap,
+    Pcapng,
+}
+
+impl Format {
+    /// By the magic of the file, all of which stays to be read.
+    pub fn of(source: &mut Source) -> Result<Format, Error> {
+        match source.fill(4)? {
+            magic if magic == pcapng::MAGIC => Ok(Format::Pcapng),
+            magic if magic.len() == 4 && pcap::format_of(magic).is_some() => Ok(Format::Pcap),
+            _ => Err(Error::Refused(Refusal::of_beginning(source.fill(LOOKED_AT)?))),
+        }
+    }
+}
+
 /// The items of a capture of either format.
 pub enum Reader {
     Pcap(pcap::Reader),
@@ -38,15 +57,10 @@ pub enum Reader {
 impl Reader {
     /// By the magic of the file.
     pub fn new(mut source: Source) -> Result<Reader, Error> {
-        let magic = source.fill(4)?;
-        if magic == pcapng::MAGIC {
-            return Ok(Reader::Pcapng(Box::new(pcapng::Reader::new(source))));
-        }
-        match magic.len() {
-            4 if pcap::format_of(magic).is_some() => Ok(Reader::Pcap(pcap::Reader::new(source)?)),
-            4 => Err(Error::refused("bad-magic")),
-            _ => Err(Error::refused("short-header")),
-        }
+        Ok(match Format::of(&mut source)? {
+            Format::Pcap => Reader::Pcap(pcap::Reader::new(source)?),
+            Format::Pcapng => Reader::Pcapng(Box::new(pcapng::Reader::new(source))),
+        })
     }
 
     /// The next item; none at the end.
@@ -64,6 +78,15 @@ impl Reader {
         match self {
             Reader::Pcap(_) => 0,
             Reader::Pcapng(reader) => reader.dropped(),
+        }
+    }
+
+    /// Where the next packet's record stands in its file, if [`pcap::Records`] can find it there once more.
+    #[inline]
+    pub fn next_place(&self) -> Option<u64> {
+        match self {
+            Reader::Pcap(reader) => reader.next_place(),
+            Reader::Pcapng(_) => None,
         }
     }
 

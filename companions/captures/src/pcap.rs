@@ -1,16 +1,21 @@
 //! Classic pcap files, version 2.4, of either byte order and either unit of time.
 
-use std::borrow::Cow;
+mod records;
+
 use std::io::{self, Write};
 
 use crate::bytes::Order;
 use crate::error::Error;
 use crate::link_layers;
 use crate::packets::{Item, Packet, MOST_CAPTURED};
+use crate::refusal::Refusal;
 use crate::source::Source;
+
+pub use records::Records;
 
 pub const HEADER_LENGTH: usize = 24;
 pub const RECORD_HEADER_LENGTH: usize = 16;
+const NANOS: i64 = 1_000_000_000;
 
 /// Byte order, and nanoseconds of a unit of time, of a file that begins so.
 pub fn format_of(magic: &[u8]) -> Option<(Order, u32)> {
@@ -47,6 +52,20 @@ impl Header {
         source.consume(HEADER_LENGTH);
         Ok(header)
     }
+
+    /// What stands before a packet.
+    #[inline(always)]
+    fn head_of(&self, record: &[u8; RECORD_HEADER_LENGTH]) -> Head {
+        let number = |at| self.order.u32(record, at);
+        let nanos = i64::from(number(0)) * NANOS + i64::from(number(4)) * i64::from(self.unit);
+        Head { nanos, captured: number(8) as usize, original: number(12) }
+    }
+}
+
+struct Head {
+    nanos: i64,
+    captured: usize,
+    original: u32,
 }
 
 /// The packets of a file.
@@ -59,17 +78,27 @@ pub struct Reader {
 }
 
 impl Reader {
-    /// Of a file whose magic is that of pcap, and whose link type is read.
+    /// Reads the header of a file whose magic is that of pcap, and whose link type is read.
     pub fn new(mut source: Source) -> Result<Reader, Error> {
         let header = Header::read(&mut source)?;
         if !link_layers::is_read(header.link) {
-            return Err(Error::Refused(Cow::Owned(format!("link-type {}", header.link))));
+            return Err(Error::Refused(Refusal::of_link(header.link)));
         }
         Ok(Reader { source, header, pending: 0, has_ended: false })
     }
 
     pub fn source(&self) -> &Source {
         &self.source
+    }
+
+    pub fn header(&self) -> Header {
+        self.header
+    }
+
+    /// Where the next record stands in its file, unless that is compressed.
+    #[inline]
+    pub fn next_place(&self) -> Option<u64> {
+        self.source.place().map(|place| place + self.pending as u64)
     }
 
     #[allow(clippy::should_implement_trait)] // an item borrows from the reader, which no Iterator's may
@@ -80,15 +109,14 @@ impl Reader {
         }
         self.source.consume(self.pending);
         self.pending = 0;
-        let order = self.header.order;
-        let head = self.source.fill(RECORD_HEADER_LENGTH)?;
-        if head.len() < RECORD_HEADER_LENGTH {
-            let has_more = !head.is_empty();
-            return Ok(self.end(has_more));
-        }
-        let (seconds, fraction) = (i64::from(order.u32(head, 0)), i64::from(order.u32(head, 4)));
-        let (captured, original) = (order.u32(head, 8) as usize, order.u32(head, 12));
-        let nanos = seconds * 1_000_000_000 + fraction * i64::from(self.header.unit);
+        let front = self.source.fill(RECORD_HEADER_LENGTH)?;
+        let Head { nanos, captured, original } = match front.try_into() {
+            Ok(front) => self.header.head_of(front),
+            Err(_) => {
+                let has_more = !front.is_empty();
+                return Ok(self.end(has_more));
+            }
+        };
         if captured > MOST_CAPTURED {
             self.source.consume(RECORD_HEADER_LENGTH);
             if self.source.skip(captured as u64)? < captured as u64 {
@@ -109,6 +137,23 @@ impl Reader {
         self.has_ended = true;
         (is_within_record || self.source.is_cut()).then_some(Item::Cut)
     }
+}
+
+/// What stands before a packet of so many bytes. Its time is one of those that can be written.
+#[inline]
+pub fn record_header(nanos: i64, captured: u32, original: u32) -> [u8; RECORD_HEADER_LENGTH] {
+    let mut header = [0; RECORD_HEADER_LENGTH];
+    let time = [(nanos as u64 / NANOS as u64) as u32, (nanos as u64 % NANOS as u64) as u32];
+    for (place, number) in header.chunks_exact_mut(4).zip([time[0], time[1], captured, original]) {
+        place.copy_from_slice(&number.to_le_bytes());
+    }
+    header
+}
+
+/// Whether a time can be written: seconds in 32 bits.
+#[inline]
+pub fn is_time(nanos: i64) -> bool {
+    (0..NANOS << 32).contains(&nanos)
 }
 
 /// Writes packets of nanoseconds, numbers in the order of most machines.
@@ -145,14 +190,12 @@ impl<W: Write> Writer<W> {
         Writer { out, head: Vec::new() }
     }
 
-    /// Writes a packet, which may stand in two parts. Its time is in seconds of 32 bits, and nanoseconds below a second.
+    /// Writes a packet, which may stand in two parts.
     #[inline]
-    pub fn write(&mut self, time: (u32, u32), original: u32, parts: [&[u8]; 2]) -> io::Result<()> {
+    pub fn write(&mut self, nanos: i64, original: u32, parts: [&[u8]; 2]) -> io::Result<()> {
         let length = (parts[0].len() + parts[1].len()) as u32;
         self.head.clear();
-        for number in [time.0, time.1, length, original] {
-            self.head.extend_from_slice(&number.to_le_bytes());
-        }
+        self.head.extend_from_slice(&record_header(nanos, length, original));
         if parts[0].len() > MOST_JOINED {
             self.out.write_all(&self.head)?;
             self.out.write_all(parts[0])?;
@@ -160,7 +203,10 @@ impl<W: Write> Writer<W> {
             self.head.extend_from_slice(parts[0]);
             self.out.write_all(&self.head)?;
         }
-        self.out.write_all(parts[1])
+        match parts[1] {
+            [] => Ok(()),
+            part => self.out.write_all(part),
+        }
     }
 
     pub fn get_mut(&mut self) -> &mut W {

@@ -68,7 +68,7 @@ pub struct Blocks {
 }
 
 impl Blocks {
-    /// Of a file whose magic is that of pcapng. A block of more bytes than the longest is refused.
+    /// The blocks of a file whose magic is that of pcapng. A block of more bytes than the longest is refused.
     pub fn new(source: Source, longest: usize) -> Blocks {
         Blocks { source, longest, order: Order::Little, pending: 0, is_cut: false }
     }
@@ -257,7 +257,7 @@ pub struct Reader {
 }
 
 /// What a block is, where something comes of it. It holds no bytes, so that those of the block can be borrowed anew.
-enum Found {
+enum BlockKind {
     Nothing,
     Packet(PacketHead),
     Secrets,
@@ -289,7 +289,7 @@ impl Reader {
             match self.blocks.next()? {
                 None => break None,
                 Some(block) => match take(&mut self.interfaces, &block)? {
-                    Found::Nothing => self.dropped.take(block.kind, block.order, block.body()),
+                    BlockKind::Nothing => self.dropped.take(block.kind, block.order, block.body()),
                     found => break Some(found),
                 },
             }
@@ -303,40 +303,42 @@ impl Reader {
         }
     }
 
-    fn item(&self, found: Found) -> Result<Item<'_>, Error> {
+    fn item(&self, found: BlockKind) -> Result<Item<'_>, Error> {
         let order = self.blocks.order;
         let block = Block { kind: 0, order, whole: self.blocks.source.view(self.blocks.pending) };
         Ok(match found {
-            Found::Packet(head) => {
+            BlockKind::Packet(head) => {
                 let interface = self.interfaces[head.interface];
                 let nanos = interface.clock.nanos(head.ticks);
                 let data = head.data(&block);
                 Item::Packet(Packet { nanos, link: Some(interface.link), data, original: head.original })
             }
-            Found::Secrets => Item::Secrets(secrets_of(order, block.body())?.unwrap_or_default()),
-            Found::Nothing | Found::Numbered => Item::Packet(Packet { nanos: 0, link: None, data: &[], original: 0 }),
+            BlockKind::Secrets => Item::Secrets(secrets_of(order, block.body())?.unwrap_or_default()),
+            BlockKind::Nothing | BlockKind::Numbered => {
+                Item::Packet(Packet { nanos: 0, link: None, data: &[], original: 0 })
+            }
         })
     }
 }
 
-fn take(interfaces: &mut Vec<Interface>, block: &Block<'_>) -> Result<Found, Error> {
+fn take(interfaces: &mut Vec<Interface>, block: &Block<'_>) -> Result<BlockKind, Error> {
     match block.kind {
         ENHANCED_PACKET | OLD_PACKET => {
             let head = PacketHead::of(block)?;
             if head.interface >= interfaces.len() {
                 return Err(Error::refused("no-interface"));
             }
-            return Ok(Found::Packet(head));
+            return Ok(BlockKind::Packet(head));
         }
         SECTION_HEADER => interfaces.clear(),
         INTERFACE if interfaces.len() >= MOST_INTERFACES => return Err(Error::refused("too-many-interfaces")),
         INTERFACE => interfaces.push(Interface::of(block.order, block.body())?),
-        SECRETS if secrets_of(block.order, block.body())?.is_some() => return Ok(Found::Secrets),
+        SECRETS if secrets_of(block.order, block.body())?.is_some() => return Ok(BlockKind::Secrets),
         SIMPLE_PACKET => return Err(Error::refused("simple-packet-block")),
-        kind if is_numbered(kind) => return Ok(Found::Numbered),
+        kind if is_numbered(kind) => return Ok(BlockKind::Numbered),
         _ => {}
     }
-    Ok(Found::Nothing)
+    Ok(BlockKind::Nothing)
 }
 
 /// Gives the secrets of a file, wherever in it they stand. Packets are passed over, and damage is left to [`Reader`].
@@ -363,16 +365,21 @@ pub fn put_option(area: &mut Vec<u8>, order: Order, code: u16, value: &[u8]) {
     area.extend(order.put_u16(code));
     area.extend(order.put_u16(length as u16));
     area.extend(&value[..length]);
-    area.resize(area.len() + (4 - length % 4) % 4, 0);
+    area.extend(padding_of(length));
 }
 
-/// Writes a block with this body, whose length is a multiple of 4.
-pub fn put_block(out: &mut impl Write, order: Order, kind: u32, body: &[u8]) -> io::Result<()> {
-    let length = order.put_u32(body.len() as u32 + 12);
+/// Writes a block whose body is these parts, with a length that is together a multiple of 4.
+pub fn put_block(out: &mut impl Write, order: Order, kind: u32, body: &[&[u8]]) -> io::Result<()> {
+    let length = body.iter().map(|part| part.len() as u32).sum::<u32>() + 12;
     out.write_all(&order.put_u32(kind))?;
-    out.write_all(&length)?;
-    out.write_all(body)?;
-    out.write_all(&length)
+    out.write_all(&order.put_u32(length))?;
+    body.iter().try_for_each(|part| out.write_all(part))?;
+    out.write_all(&order.put_u32(length))
+}
+
+/// What fills a part of this length up to 32 bits.
+pub fn padding_of(length: usize) -> &'static [u8] {
+    &[0; 3][..(4 - length % 4) % 4]
 }
 
 /// The body of a Section Header Block of unknown length, for [`put_block`].

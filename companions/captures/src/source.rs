@@ -27,6 +27,8 @@ pub struct Source {
     window: Vec<u8>,
     start: usize,
     end: usize,
+    /// How many bytes were read, unpacked.
+    read: u64,
     is_cut: bool,
 }
 
@@ -41,14 +43,12 @@ enum Unpacked {
 impl Source {
     /// The file of this name, or standard input for `-`.
     pub fn open(path: &OsStr) -> Result<Source, Error> {
-        if path == OsStr::new(STANDARD_INPUT) {
-            return Source::new(Box::new(io::stdin()));
-        }
-        let file = File::open(path)?;
-        if file.metadata()?.is_dir() {
-            return Err(Error::Io(io::Error::from_raw_os_error(IS_A_DIRECTORY)));
-        }
-        Source::new(Box::new(file))
+        Source::new(opened(path)?)
+    }
+
+    /// The same, of which it is told how many bytes are read, as the file has them.
+    pub fn open_counted(path: &OsStr, count: fn(u64)) -> Result<Source, Error> {
+        Source::new(Box::new(Counted { file: opened(path)?, count }))
     }
 
     /// Whatever gives bytes.
@@ -56,12 +56,20 @@ impl Source {
         let mut magic = Vec::new();
         file.by_ref().take(LONGEST_MAGIC as u64).read_to_end(&mut magic)?;
         let unpacked = unpacked(&magic.clone(), Cursor::new(magic).chain(file))?;
-        Ok(Source { unpacked, window: Vec::new(), start: 0, end: 0, is_cut: false })
+        Ok(Source { unpacked, window: Vec::new(), start: 0, end: 0, read: 0, is_cut: false })
     }
 
     /// Whether a file can be read twice: a pipe, a device and standard input cannot.
     pub fn can_be_read_twice(path: &OsStr) -> io::Result<bool> {
-        Ok(path != OsStr::new(STANDARD_INPUT) && fs::metadata(path)?.is_file())
+        Source::size(path).map(|size| size.is_some())
+    }
+
+    /// How many bytes a file has, unless it is a pipe, a device or standard input.
+    pub fn size(path: &OsStr) -> io::Result<Option<u64>> {
+        if path == OsStr::new(STANDARD_INPUT) {
+            return Ok(None);
+        }
+        fs::metadata(path).map(|found| Some(found.len()).filter(|_| found.is_file()))
     }
 
     /// As many of the next bytes as are asked for, fewer at the end alone.
@@ -97,6 +105,12 @@ impl Source {
         Ok(size - left)
     }
 
+    /// Where what is in view begins in the file, unless that is compressed.
+    #[inline]
+    pub fn place(&self) -> Option<u64> {
+        matches!(self.unpacked, Unpacked::Plain(_)).then(|| self.read - (self.end - self.start) as u64)
+    }
+
     /// Whether a compressed file ends too early, once its end is reached.
     pub fn is_cut(&self) -> bool {
         self.is_cut || matches!(&self.unpacked, Unpacked::Gzip(gzip) if gzip.is_cut())
@@ -118,11 +132,37 @@ impl Source {
         }
         let got = self.unpacked.read(&mut self.window[self.end..], &mut self.is_cut)?;
         self.end += got;
+        self.read += got as u64;
         Ok(got > 0)
     }
 }
 
 const IS_A_DIRECTORY: i32 = 21;
+
+fn opened(path: &OsStr) -> Result<Box<dyn Read + Send>, Error> {
+    if path == OsStr::new(STANDARD_INPUT) {
+        return Ok(Box::new(io::stdin()));
+    }
+    let file = File::open(path)?;
+    if file.metadata()?.is_dir() {
+        return Err(Error::Io(io::Error::from_raw_os_error(IS_A_DIRECTORY)));
+    }
+    Ok(Box::new(file))
+}
+
+/// A file whose bytes are counted as they are read.
+struct Counted {
+    file: Box<dyn Read + Send>,
+    count: fn(u64),
+}
+
+impl Read for Counted {
+    fn read(&mut self, room: &mut [u8]) -> io::Result<usize> {
+        let got = self.file.read(room)?;
+        (self.count)(got as u64);
+        Ok(got)
+    }
+}
 
 fn unpacked(magic: &[u8], raw: Raw) -> Result<Unpacked, Error> {
     Ok(match magic {

@@ -38,7 +38,7 @@ fn packets(count: u32) -> Vec<Vec<u8>> {
 fn pcap_of(packets: &[Vec<u8>]) -> Vec<u8> {
     let mut writer = pcap::Writer::new(Vec::new(), 1).unwrap();
     for (at, packet) in packets.iter().enumerate() {
-        writer.write((at as u32, 0), packet.len() as u32, [packet, &[]]).unwrap();
+        writer.write(at as i64 * 1_000_000_000, packet.len() as u32, [packet, &[]]).unwrap();
     }
     writer.into_inner()
 }
@@ -119,11 +119,11 @@ fn damage_is_named() {
 
 fn ng(blocks: &[(u32, Vec<u8>)]) -> Vec<u8> {
     let mut data = Vec::new();
-    pcapng::put_block(&mut data, Order::Big, pcapng::SECTION_HEADER, &pcapng::section_body(Order::Big)).unwrap();
+    pcapng::put_block(&mut data, Order::Big, pcapng::SECTION_HEADER, &[&pcapng::section_body(Order::Big)]).unwrap();
     let interface = [Order::Big.put_u16(1).to_vec(), vec![0; 6]].concat();
-    pcapng::put_block(&mut data, Order::Big, pcapng::INTERFACE, &interface).unwrap();
+    pcapng::put_block(&mut data, Order::Big, pcapng::INTERFACE, &[&interface]).unwrap();
     for (kind, body) in blocks {
-        pcapng::put_block(&mut data, Order::Big, *kind, body).unwrap();
+        pcapng::put_block(&mut data, Order::Big, *kind, &[body]).unwrap();
     }
     data
 }

@@ -56,14 +56,19 @@ fn put_packets(
             return Ok((number, true));
         }
         number += 1;
-        put_packet(header.order, &record, &whole[RECORD_HEADER_LENGTH..], number, comments, out)?;
+        let mut options = Vec::new();
+        if comments.has(number) {
+            let found = comments.of(number, Some(record.nanos))?;
+            put_with_comments(&mut options, header.order, &[], &found)?;
+        }
+        put_packet(header.order, &record, &whole[RECORD_HEADER_LENGTH..], &options, out)?;
         source.consume(size);
     }
 }
 
 fn put_heading(header: &Header, out: &mut impl Write) -> Result<(), Ended> {
     let order = header.order;
-    pcapng::put_block(out, order, pcapng::SECTION_HEADER, &pcapng::section_body(order))?;
+    pcapng::put_block(out, order, pcapng::SECTION_HEADER, &[&pcapng::section_body(order)])?;
     let mut interface = Vec::new();
     interface.extend(order.put_u16(header.link));
     interface.extend([0; 2]);
@@ -71,7 +76,7 @@ fn put_heading(header: &Header, out: &mut impl Write) -> Result<(), Ended> {
     let digits = if header.unit == 1 { 9 } else { 6 };
     pcapng::put_option(&mut interface, order, pcapng::TIME_RESOLUTION, &[digits]);
     pcapng::put_option(&mut interface, order, pcapng::END_OF_OPTIONS, b"");
-    pcapng::put_block(out, order, pcapng::INTERFACE, &interface)?;
+    pcapng::put_block(out, order, pcapng::INTERFACE, &[&interface])?;
     Ok(())
 }
 
@@ -87,37 +92,10 @@ fn record_of(header: &Header, head: &[u8]) -> Record {
     }
 }
 
-fn put_packet(
-    order: Order,
-    record: &Record,
-    data: &[u8],
-    number: u64,
-    comments: &mut Comments,
-    out: &mut impl Write,
-) -> Result<(), Ended> {
-    let mut options = Vec::new();
-    if comments.has(number) {
-        put_with_comments(&mut options, order, &[], &comments.of(number, Some(record.nanos))?)?;
-    }
-    let padding = &[0; 3][..(4 - data.len() % 4) % 4];
-    let length = 32 + data.len() + padding.len() + options.len();
-    let numbers = [
-        pcapng::ENHANCED_PACKET,
-        length as u32,
-        0,
-        (record.time >> 32) as u32,
-        record.time as u32,
-        data.len() as u32,
-        record.original,
-    ];
-    let mut head = [0; 28];
-    for (place, number) in head.chunks_exact_mut(4).zip(numbers) {
-        place.copy_from_slice(&order.put_u32(number));
-    }
-    out.write_all(&head)?;
-    out.write_all(data)?;
-    out.write_all(padding)?;
-    out.write_all(&options)?;
-    out.write_all(&order.put_u32(length as u32))?;
-    Ok(())
+fn put_packet(order: Order, record: &Record, data: &[u8], options: &[u8], out: &mut impl Write) -> Result<(), Ended> {
+    // Of the only interface.
+    let numbers = [0, (record.time >> 32) as u32, record.time as u32, data.len() as u32, record.original];
+    let head: Vec<u8> = numbers.iter().flat_map(|number| order.put_u32(*number)).collect();
+    let body = [&head[..], data, pcapng::padding_of(data.len()), options];
+    Ok(pcapng::put_block(out, order, pcapng::ENHANCED_PACKET, &body)?)
 }

@@ -3,8 +3,9 @@
 use std::collections::HashMap;
 
 use programs::printable;
-use reports::{grouped, Note};
+use reports::{count, grouped, Note};
 
+use crate::answered::Said;
 use crate::ended::Ended;
 use crate::windows::Setters;
 
@@ -19,23 +20,40 @@ pub struct Findings {
     pub setters: HashMap<usize, Setters>,
     /// The names of other files than the capture, by their numbers in a map.
     pub files: HashMap<u64, Vec<u8>>,
+    /// Comments that need nothing more.
+    pub said: Vec<Said>,
+}
+
+impl Findings {
+    /// The packets of all comments: of the notes, none for those of another file, and then of what is said.
+    fn packets(&self) -> impl Iterator<Item = Option<u64>> + '_ {
+        let notes = self.notes.iter().map(|note| Some(note.packet).filter(|_| note.file.is_none()));
+        notes.chain(self.said.iter().map(|said| Some(said.packet)))
+    }
+
+    fn packet(&self, number: usize) -> u64 {
+        match self.notes.get(number) {
+            Some(note) => note.packet,
+            None => self.said[number - self.notes.len()].packet,
+        }
+    }
 }
 
 /// Hands out the comments of each packet, in the order of the packets.
 pub struct Comments {
     findings: Findings,
-    /// The notes about this capture, in the order of their packets.
+    /// The comments of this capture, in the order of their packets: notes, and then what is said.
     order: Vec<usize>,
     at: usize,
 }
 
 impl Comments {
     pub fn new(findings: Findings) -> Result<Comments, Ended> {
-        let notes = &findings.notes;
-        let mut order: Vec<usize> = (0..notes.len()).filter(|number| notes[*number].file.is_none()).collect();
-        order.sort_by_key(|number| notes[*number].packet);
+        let here = findings.packets().enumerate().filter(|(_, packet)| packet.is_some());
+        let mut order: Vec<usize> = here.map(|(number, _)| number).collect();
+        order.sort_by_key(|number| findings.packet(*number));
         match order.first() {
-            Some(first) if notes[*first].packet < 1 => Err(Ended::report_refused("it names a packet 0")),
+            Some(first) if findings.packet(*first) < 1 => Err(Ended::report_refused("it names a packet 0")),
             _ => Ok(Comments { findings, order, at: 0 }),
         }
     }
@@ -46,15 +64,15 @@ impl Comments {
     }
 
     fn next_packet(&self) -> Option<u64> {
-        self.order.get(self.at).map(|number| self.findings.notes[*number].packet)
+        self.order.get(self.at).map(|number| self.findings.packet(*number))
     }
 
     /// The comments of the packet that comes next, whose time is known in nanoseconds unless it is none.
     pub fn of(&mut self, packet: u64, nanos: Option<i64>) -> Result<Vec<String>, Ended> {
         let begin = self.at;
         while self.next_packet() == Some(packet) {
-            let time = self.findings.notes[self.order[self.at]].finding.time;
-            if nanos.map_or(false, |nanos| i128::from(nanos) != i128::from(time)) {
+            let time = self.findings.notes.get(self.order[self.at]).map(|note| i128::from(note.finding.time));
+            if matches!((nanos, time), (Some(nanos), Some(time)) if i128::from(nanos) != time) {
                 return Err(Ended::report_refused(format!(
                     "packet {packet} has another time than the report says: is it of this capture?"
                 )));
@@ -69,8 +87,8 @@ impl Comments {
         match self.next_packet() {
             None => Ok(()),
             Some(packet) => Err(Ended::report_refused(format!(
-                "it names packet {packet}, and the capture has {} whole packets",
-                grouped(packets)
+                "it names packet {packet}, and the capture has {}",
+                count(packets, "whole packet")
             ))),
         }
     }
@@ -83,8 +101,8 @@ impl Comments {
             let comment = self.comment(*number);
             size += comment.len() + 8;
             if size > MOST_BYTES {
-                let left = grouped((numbers.len() - place) as u64);
-                comments.push(format!("h2audit: and {left} findings more, which the report has"));
+                let left = count((numbers.len() - place) as u64, "other finding");
+                comments.push(format!("h2audit: and {left}, which the report has"));
                 break;
             }
             comments.push(comment);
@@ -93,7 +111,13 @@ impl Comments {
     }
 
     fn comment(&self, number: usize) -> String {
-        let note = &self.findings.notes[number];
+        match self.findings.notes.get(number) {
+            Some(note) => self.sentence(number, note),
+            None => self.findings.said[number - self.findings.notes.len()].text.clone(),
+        }
+    }
+
+    fn sentence(&self, number: usize, note: &Note) -> String {
         let other = note.other.map(|other| &self.findings.notes[other]);
         let set = self.findings.setters.get(&number).map(|setters| self.set_by(setters)).unwrap_or_default();
         let place = |note: &Note| format!("packet {}", self.place(note.packet, note.file));

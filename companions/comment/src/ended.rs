@@ -3,13 +3,14 @@
 use std::io;
 use std::path::Path;
 
-use captures::Error;
-use programs::Failure;
+use captures::{Error, Refusal};
+use programs::{printable, Failure};
 use reports::maps::MapError;
 use reports::ReadError;
 
 pub enum Ended {
-    /// What is refused, and its reason by name.
+    Capture(Refusal),
+    /// A report or a map that is refused, and why.
     Refused(String),
     Read(io::Error),
     Write(io::Error),
@@ -18,8 +19,8 @@ pub enum Ended {
 
 impl Ended {
     /// The capture is refused.
-    pub fn refused(why: &str) -> Ended {
-        Ended::Refused(format!("capture refused: {why}"))
+    pub fn refused(name: &'static str) -> Ended {
+        Ended::Capture(Refusal::named(name))
     }
 
     pub fn report_refused(why: impl std::fmt::Display) -> Ended {
@@ -33,6 +34,7 @@ impl Ended {
     /// As the failure of a program that was reading this file.
     pub fn of_input(self, name: &Path) -> Failure {
         match self {
+            Ended::Capture(refusal) => Failure::Refused(refusal.of_file(&printable(name))),
             Ended::Refused(why) => Failure::Refused(why),
             Ended::Memory => Failure::Memory,
             Ended::Read(error) | Ended::Write(error) if name.as_os_str() == "-" => {
@@ -46,7 +48,7 @@ impl Ended {
 impl From<Error> for Ended {
     fn from(error: Error) -> Ended {
         match error {
-            Error::Refused(why) => Ended::refused(&why),
+            Error::Refused(refusal) => Ended::Capture(refusal),
             Error::Io(error) => Ended::Read(error),
         }
     }

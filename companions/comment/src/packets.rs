@@ -77,9 +77,9 @@ impl Copy {
             (Some(packet), Some(options)) => (packet, options),
             _ => return Err(Ended::refused("bad-block")),
         };
-        let mut body = packet.to_vec();
-        put_with_comments(&mut body, block.order, options, &found)?;
-        pcapng::put_block(out, block.order, block.kind, &body)?;
+        let mut commented = Vec::new();
+        put_with_comments(&mut commented, block.order, options, &found)?;
+        pcapng::put_block(out, block.order, block.kind, &[packet, &commented])?;
         Ok(())
     }
 }

@@ -5,6 +5,7 @@
 
 use std::collections::HashMap;
 
+use explain::answer::FIRST_CREDIT;
 use reports::{Finding, Side};
 
 /// So many packets are named.
@@ -39,7 +40,7 @@ impl Setters {
     }
 }
 
-struct Window {
+struct CountedWindow {
     credit: i64,
     setters: Setters,
 }
@@ -47,13 +48,10 @@ struct Window {
 /// The windows of a connection, as far as its report has gone.
 #[derive(Default)]
 pub struct Windows {
-    windows: HashMap<(Side, u64), Window>,
+    windows: HashMap<(Side, u64), CountedWindow>,
     /// The frame at which the connection's window changed last, and whose that was.
     last_of_connection: Option<(u64, Side)>,
 }
-
-/// Of the connection at its start (RFC 9113, 6.9.2).
-const INITIAL: i64 = 65_535;
 
 impl Windows {
     /// A credit line.
@@ -65,7 +63,7 @@ impl Windows {
         }
         let known = self.windows.entry(finding.window());
         let is_new = matches!(known, std::collections::hash_map::Entry::Vacant(_));
-        let window = known.or_insert_with(|| Window { credit: INITIAL, setters: Setters::default() });
+        let window = known.or_insert_with(|| CountedWindow { credit: FIRST_CREDIT, setters: Setters::default() });
         let is_set = match is_new && !is_connection {
             true => true,
             false => finding.value > window.credit || !is_connection && !has_content,

@@ -47,17 +47,21 @@ pub fn broken(why: &str) -> Failure {
     Failure::Io(format!("the report is not about the capture that was made: {why}"))
 }
 
-/// All connections of a report. What is none fails in some words.
-pub fn read_audits(report: impl BufRead, not_read: fn(ReadError) -> Failure) -> Result<Vec<Audit>, Failure> {
+/// All connections of a report.
+#[allow(clippy::vec_box)] // each is kept until its frames come, and all others before it go
+pub type Audits = Vec<Box<Audit>>;
+
+/// What is no report fails in some words.
+pub fn read_audits(report: impl BufRead, not_read: fn(ReadError) -> Failure) -> Result<Audits, Failure> {
     let mut reader = Reader::new(report);
-    let mut audits: Vec<Audit> = Vec::new();
+    let mut audits = Audits::new();
     // The stall of each window that goes on.
     let mut going_on = HashMap::new();
     while let Some(line) = reader.next_line().map_err(not_read)? {
         match (line, audits.last_mut()) {
             (Line::Opening(opening), _) => {
                 going_on.clear();
-                audits.push(Audit::of(opening));
+                audits.push(Box::new(Audit::of(opening)));
             }
             (Line::Flow(flow), Some(audit)) => audit.flows.push(flow),
             (Line::Finding(finding), Some(audit)) => audit.add(finding, &mut going_on)?,
@@ -86,7 +90,7 @@ impl Audit {
             number: opening.number,
             record: opening.record,
             form: opening.form,
-            flows: Vec::new(),
+            flows: Vec::with_capacity(2),
             faults: Vec::new(),
             stalls: Vec::new(),
             stopped_at: None,

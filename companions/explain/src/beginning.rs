@@ -82,8 +82,8 @@ impl Beginning {
     }
 
     /// When something may have waited for each window that was not seen to be used up.
-    pub fn doubtful(&self) -> HashMap<Key, (Nanos, Nanos)> {
-        self.bounds.iter().filter_map(|(key, bound)| Some((*key, bound.doubtful?))).collect()
+    pub fn doubtful(&self) -> impl Iterator<Item = (Key, (Nanos, Nanos))> + '_ {
+        self.bounds.iter().filter_map(|(key, bound)| Some((*key, bound.doubtful?)))
     }
 
     /// What is assumed of windows, and when something may have waited for each.

@@ -4,7 +4,7 @@ use hpack::{Decoder, Fields, Name, LONGEST_BLOCK};
 
 use crate::answer::At;
 use crate::names::{shortened, text_of, Interner};
-use crate::stream::{Answered, Asked};
+use crate::stream::{Answered, RequestFields};
 
 /// What is wanted of names.
 #[derive(Clone, Copy, Debug)]
@@ -106,20 +106,30 @@ impl Blocks {
 }
 
 /// What a block says of a request.
-pub fn asked_of(fields: &Fields, names: Names, interner: &mut Interner) -> Asked {
-    let mut number = |octets: Option<&[u8]>, is_path: bool| match octets {
+pub fn asked_of(fields: &Fields, names: Names, interner: &mut Interner) -> RequestFields {
+    let mut number = |sort: usize, name: Name| match fields.value(name) {
         None => 0,
         Some(octets) => {
             let text = text_of(octets);
-            let query = if is_path && !names.has_query { text.find('?') } else { None };
-            interner.number(shortened(&text[..query.unwrap_or(text.len())]))
+            let query = if name == Name::Path && !names.has_query { text.find('?') } else { None };
+            interner.number_of(sort, shortened(&text[..query.unwrap_or(text.len())]))
         }
     };
-    Asked {
-        is_empty: Name::ALL.iter().all(|name| fields.value(*name).is_none()),
-        method: number(fields.value(Name::Method), false),
-        path: number(fields.value(Name::Path), true),
-        authority: number(fields.value(Name::Authority), false),
+    RequestFields {
+        is_empty: Name::ALL.iter().all(|name| Name::IDS.contains(name) || fields.value(*name).is_none()),
+        method: number(0, Name::Method),
+        path: number(1, Name::Path),
+        authority: number(2, Name::Authority),
+        ids: Name::IDS
+            .map(|name| fields.value(name).and_then(|value| id_of(name, value)).map_or(0, |id| interner.hash(id))),
+    }
+}
+
+/// What of a value goes from hop to hop: of a traceparent the part that names the trace (W3C Trace Context, 3.2.2).
+fn id_of(name: Name, value: &[u8]) -> Option<&[u8]> {
+    match name {
+        Name::TraceParent => value.get(3..35),
+        _ => Some(value).filter(|value| !value.is_empty()),
     }
 }
 
@@ -166,6 +176,20 @@ mod tests {
         assert!(blocks.begin(AT, (3, false), b"\x82", true).is_none());
         let said = blocks.unknown("answers").expect("damage");
         assert!(said.starts_with("names and statuses of answers from packet 9 on are unknown: a damaged"), "{said}");
+    }
+
+    #[test]
+    fn ids_are_those_of_the_trace() {
+        let mut decoder = hpack::Decoder::new();
+        let mut fields = |trace: &[u8]| decoder.decode(&[b"\x00\x0btraceparent\x37", trace].concat()).expect("fields");
+        let [one, other] = [b"a3ce929d0e0e4736-01", b"00f067aa0ba902b7-01"]
+            .map(|behind| [&b"00-4bf92f3577b34da6a3ce929d0e0e4736-"[..], behind].concat());
+        let mut interner = Interner::default();
+        let names = Names { are_wanted: true, has_query: false };
+        let [one, other] = [&one, &other].map(|trace| asked_of(&fields(trace), names, &mut interner));
+        assert_eq!(one, other);
+        assert!(one.ids[1] != 0 && one.ids[0] == 0 && one.is_empty);
+        assert_eq!((id_of(Name::TraceParent, b"00-4b"), id_of(Name::RequestId, b"")), (None, None));
     }
 
     #[test]

@@ -4,23 +4,25 @@ use std::ffi::OsString;
 use std::fs::File;
 use std::io;
 use std::path::Path;
-use std::time::Instant;
 
-use import::{Bounds, Courses, Sink, Summary};
-use originals::Keeping;
-use programs::{program_named, temporary_failure, Failure, PrivateFile};
+use import::{Bounds, Courses, Fate, Sink, Summary, Unopened};
+use joined::How;
+use originals::{Keeping, Original};
+use programs::{program_named, temporary_failure, Failure, PrivateFile, Progress};
 
 use crate::answer::{Answer, Files};
-use crate::audit::{broken, Audit};
-use crate::doubts::{doubts_of, not_audited};
-use crate::frame_log::{Entry, Found, FrameLog};
+use crate::audit::{broken, Audits};
+use crate::doubts::{doubled, doubts_of, not_audited, Unjoined, ONE_DIRECTION};
+use crate::frame_log::{Entry, FrameLog, Logged};
+use crate::joining::is_told;
 use crate::learning::{Known, Learned, Learning};
+use crate::legs::{legs_of, may_have_hops, Partials};
 use crate::listening::Listening;
 use crate::reported::{audited, of_original, read_report, ReportTo, Reported};
-use crate::telling::tell;
+use crate::telling::{tell, untold};
 
 /// What is asked.
-pub struct Asked<'a> {
+pub struct ExplainOptions<'a> {
     /// The program that asks, as messages name it.
     pub program: &'a str,
     /// In the order in which they are read; standard input where there is none.
@@ -44,6 +46,8 @@ pub struct Asked<'a> {
     pub has_frames: bool,
     /// Whether the credits of windows are, as charts show them.
     pub has_charts: bool,
+    /// Whether both legs of proxies are.
+    pub has_legs: bool,
 }
 
 /// What was made, and what is known of it.
@@ -60,12 +64,12 @@ pub struct Made {
     /// Files that end within a packet, and the number of that packet in each.
     pub cuts: Vec<(usize, u64)>,
     pub addresses: import::Addresses,
-    /// When the work began.
-    pub begun: Instant,
+    /// Where the import's connections stand in the answer.
+    pub places: Vec<Option<usize>>,
 }
 
 /// Imports the files, audits what is made, and says what it means.
-pub fn answer_of(asked: &Asked<'_>) -> Result<Answer, Failure> {
+pub fn answer_of(asked: &ExplainOptions<'_>) -> Result<Answer, Failure> {
     let made = make(asked, None)?.0;
     match asked.report {
         Some(report) => answer_by(asked, made, read_report(report)?),
@@ -74,8 +78,10 @@ pub fn answer_of(asked: &Asked<'_>) -> Result<Answer, Failure> {
 }
 
 /// The same; and writes the report of the original.
-pub fn answer_with_report(asked: &Asked<'_>, to: ReportTo<'_>) -> Result<(Answer, Reported), Failure> {
+pub fn answer_with_report(asked: &ExplainOptions<'_>, to: ReportTo<'_>) -> Result<(Answer, Reported), Failure> {
     let (made, keeping) = make(asked, Some(Keeping::default()))?;
+    let mut original = keeping.unwrap_or_default().original;
+    note_joined(&mut original, &made);
     let (answer, report) = match asked.report {
         Some(path) => {
             let report = File::open(path).map_err(|error| Failure::of_file(path, &error))?;
@@ -86,52 +92,95 @@ pub fn answer_with_report(asked: &Asked<'_>, to: ReportTo<'_>) -> Result<(Answer
             (answer_by_audit(asked, made, Some(&mut report))?, report)
         }
     };
-    let mut original = keeping.unwrap_or_default().original;
-    Ok((answer, of_original(report, &mut original, to)?))
+    let reported = of_original(report, &mut original, &answer, to)?;
+    Ok((answer, reported))
 }
 
-fn answer_by_audit(asked: &Asked<'_>, mut made: Made, copy: Option<&mut File>) -> Result<Answer, Failure> {
+/// What the report of the original has of connections that began before the capture: those of which nothing is
+/// inferred.
+fn note_joined(original: &mut Original, made: &Made) {
+    let untold = untold(&made.summary, &made.courses);
+    for one in &made.summary.joined {
+        let is_exact = !matches!(one.how, How::Inferred(_)) && !untold.contains(&one.connection);
+        let joined = if is_exact { originals::Joined::Exact } else { originals::Joined::LeftOut };
+        let outcome = made.summary.outcomes.get(one.connection);
+        outcome.into_iter().for_each(|outcome| original.add_joined(outcome.opening, joined.clone()));
+    }
+    for pair in &made.summary.unopened {
+        let fates = fate_of(pair, &made.courses).into_iter();
+        fates.for_each(|fate| original.add_fate(made.addresses.endpoints(&pair.ends), fate));
+    }
+}
+
+fn fate_of(pair: &Unopened, courses: &Courses) -> Option<String> {
+    match pair.fate {
+        Fate::NotAsked => None,
+        Fate::Joined(_) if is_told(pair, courses) => Some("joined".to_string()),
+        Fate::Joined(_) => Some(ONE_DIRECTION.to_string()),
+        Fate::Unjoined(_) if pair.is_one_way => Some(ONE_DIRECTION.to_string()),
+        Fate::Unjoined(why) => Some(why.to_string()),
+    }
+}
+
+fn answer_by_audit(asked: &ExplainOptions<'_>, mut made: Made, copy: Option<&mut File>) -> Result<Answer, Failure> {
     let program = program_named(asked.h2audit.clone())?;
+    let auditing = Progress::begin(asked.program, "auditing", None);
     let audits = audited(&program, asked.options, &made.capture.path()?, copy)?;
+    drop(auditing);
     if audits.len() != made.order.len() {
         return Err(broken("it has other connections"));
     }
     answer_by(asked, made, audits)
 }
 
-fn answer_by(asked: &Asked<'_>, mut made: Made, audits: Vec<Audit>) -> Result<Answer, Failure> {
+fn answer_by(asked: &ExplainOptions<'_>, mut made: Made, audits: Audits) -> Result<Answer, Failure> {
     let files = std::mem::take(&mut made.files);
     let (cuts, counts) = (std::mem::take(&mut made.cuts), made.summary.counts);
     let mut answer = Answer { files, packets: counts.records, counts, cuts, ..Answer::default() };
+    let mut partial: Partials = Vec::new();
+    if asked.has_legs {
+        partial.extend(made.known.iter_mut().map(|known| known.as_mut().map(|one| std::mem::take(&mut one.partial))));
+    }
+    let unopened = Unjoined::of(&made.summary, &made.courses);
+    let doubled = doubled(&made.courses);
     tell(asked, &mut made, audits, &mut answer)?;
-    answer.not_audited = not_audited(&answer, &made.summary, &made.courses);
-    answer.warnings = doubts_of(&answer, &made.summary, &made.courses);
+    answer.not_audited = not_audited(&answer, &made.summary, &unopened);
+    answer.warnings = doubts_of(&answer, &made.summary, doubled);
+    if asked.has_legs && may_have_hops(&answer) {
+        answer.legs = legs_of(asked.program, &answer, &mut made, &partial)?;
+    }
+    // Captures of a proxy's two sides overlap, and each connection is in one of them.
+    if !answer.legs.hops.is_empty() && answer.connections.iter().all(|one| one.late == 0 && one.joined.is_none()) {
+        answer.warnings.retain(|one| one.kind != "files-out-of-order");
+    }
     Ok(answer)
 }
 
-fn make(asked: &Asked<'_>, keeping: Option<Keeping>) -> Result<(Made, Option<Keeping>), Failure> {
-    let begun = Instant::now();
+fn make(asked: &ExplainOptions<'_>, keeping: Option<Keeping>) -> Result<(Made, Option<Keeping>), Failure> {
     let mut capture = PrivateFile::new()?;
     let mut listening = Listening { learning: Learning::new()?, keeping };
     let mut courses = Courses::default();
     let mut sink = Sink::new(&mut capture, &mut listening)?;
-    let Asked { program, files, key_logs, is_reordered, is_joined, .. } = *asked;
+    let ExplainOptions { program, files, key_logs, is_reordered, is_joined, .. } = *asked;
     let bounds = Bounds::default();
-    let import = import::Asked { program, files, key_logs, is_reordered, is_joined, bounds, can_repeat: true };
+    let import = import::ImportOptions { program, files, key_logs, is_reordered, is_joined, bounds, can_repeat: true };
     let summary = import::imported(&import, &mut sink, Some(&mut courses))?;
     drop(sink);
     if summary.counts.fragments + summary.counts.refused > 0 {
         // What was passed over may have the bytes that seem not to be captured.
-        courses
-            .connections
-            .iter_mut()
-            .flat_map(|one| &mut one.sides)
-            .for_each(|side| side.uncaptured = Default::default());
+        let courses = courses.connections.iter_mut().flatten();
+        courses.flat_map(|one| &mut one.sides).for_each(|side| side.uncaptured = Default::default());
+    }
+    for one in summary.joined.iter().filter(|one| matches!(one.behind, import::Behind::Gap(_))) {
+        // They are told of the connection that has the gap.
+        let course = courses.connections.get_mut(one.connection).into_iter().flatten();
+        course.flat_map(|course| &mut course.sides).for_each(|side| side.uncaptured = Default::default());
     }
     let Learning { mut connections, order, files, addresses, mut log, cuts, .. } = listening.learning;
     place_early(&mut connections, &mut log).map_err(|error| temporary_failure(&error))?;
     let known = connections.into_iter().map(|one| one.map(|one| Box::new(one.known()))).collect();
-    Ok((Made { capture, log, summary, courses, known, order, files, cuts, addresses, begun }, listening.keeping))
+    let places = Vec::new();
+    Ok((Made { capture, log, summary, courses, known, order, files, cuts, addresses, places }, listening.keeping))
 }
 
 /// Goes on with connections whose server sent bytes before its initial sequence number was known.
@@ -141,7 +190,7 @@ pub fn place_early(connections: &mut [Option<Box<Learned>>], log: &mut FrameLog)
     }
     let mut reader = log.reader()?;
     while let Some(Entry { came, found }) = reader.next()? {
-        if let (Found::Unplaced(payload), Some(Some(one))) = (found, connections.get_mut(came.connection)) {
+        if let (Logged::Unplaced(payload), Some(Some(one))) = (found, connections.get_mut(came.connection)) {
             one.place(&came, &payload, log)?;
         }
     }

@@ -3,13 +3,13 @@
 
 use import::Why;
 
-use crate::answer::{At, Cause, CauseKind, CauseWhy, How, Nanos, Place, Request, Share, StallWhy, Sure};
+use crate::answer::{self, At, Cause, CauseKind, CauseWhy, How, Nanos, Place, Request, Share, StallWhy, Sure};
 use crate::seen::Seen;
 use crate::side_of;
 use crate::stream::{Direction, Stream};
 
 /// Flow control or TCP held a request back where it did so for 1 ms and for 1 % of its life, at least.
-const LEAST_HELD: Nanos = 1_000_000;
+pub const LEAST_HELD: Nanos = 1_000_000;
 const HELD_SHARE: i128 = 100;
 /// An application is named where it sent nothing for 10 ms and for a tenth of the request's life, at least; a path where
 /// a side sent for 10 ms and more than half of it.
@@ -25,7 +25,7 @@ pub struct Held<'a> {
 }
 
 /// What held a request back most, how long a window did, and for how long it hung, if it did.
-pub struct Found {
+pub struct NamedCause {
     pub cause: Cause,
     pub held: Nanos,
     pub hung: Option<Nanos>,
@@ -50,6 +50,7 @@ pub fn no_cause() -> Cause {
         first: None,
         last: None,
         window: 0,
+        needed: None,
         credit: None,
         setting: None,
         is_proved: false,
@@ -58,6 +59,16 @@ pub fn no_cause() -> Cause {
         content: 0,
         streams: 0,
     }
+}
+
+/// A window for the rate that was seen between stalls; no more than all content needs.
+fn needed_window(said: &answer::Direction, round_trip: Nanos) -> i64 {
+    let (content, sending) = (i128::from(said.content), said.shares[Share::Sending as usize]);
+    let needed = match sending {
+        0 => content,
+        _ => content.min(content * i128::from(round_trip) / i128::from(sending)),
+    };
+    i64::try_from(needed).unwrap_or(i64::MAX)
 }
 
 /// The one that took most; of several the first.
@@ -71,7 +82,7 @@ fn longest(causes: impl IntoIterator<Item = Cause>) -> Option<Cause> {
 
 impl Held<'_> {
     /// Seeks the cause. A window that had no more grant is it, whatever took longer before.
-    pub fn found(&self) -> Found {
+    pub fn found(&self) -> NamedCause {
         let mut named = Vec::new();
         (0..2).for_each(|side| self.of_direction(side, &mut named));
         named.extend((0..2).filter_map(|side| self.unshown(side)));
@@ -82,7 +93,7 @@ impl Held<'_> {
             named.extend(self.of_application());
             longest(named)
         });
-        Found { cause: cause.unwrap_or_else(|| self.unseen()), held, hung: hung.map(|hung| hung.1) }
+        NamedCause { cause: cause.unwrap_or_else(|| self.unseen()), held, hung: hung.map(|hung| hung.1) }
     }
 
     /// Most of its life was not seen, or nothing held it back.
@@ -127,20 +138,29 @@ impl Held<'_> {
     /// The stalls of a window within a request's life, by the reason that took most of the time.
     fn of_window(&self, side: usize, kind: CauseKind, share: Share) -> Option<Cause> {
         let stream = if kind == CauseKind::StreamWindow { self.request.stream } else { 0 };
-        let (why, first, last) = self.seen.windows.get(&(side, stream))?.most(self.life(side))?;
+        let (why, first, last) = self.seen.windows.get(side, stream)?.most(self.life(side))?;
         if why == StallWhy::NotNeeded {
             return None;
         }
         let end = last.end.or_else(|| self.seen.about.tcp.closing(last.begin.time).at);
         let sure = first.sure;
+        let cause = self.window_cause(side, kind, CauseWhy::Stalls(why), self.share(side, share));
         Some(Cause {
             first: Some(first.begin),
             last: end,
+            needed: self.needed(&cause),
             setting: self.seen.setting(side, first.begin.frame),
             is_proved: matches!(sure, None | Some(Sure::Certain)),
             sure,
-            ..self.window_cause(side, kind, CauseWhy::Stalls(why), self.share(side, share))
+            ..cause
         })
+    }
+
+    /// Of a window that is too small for a round trip the one that would do.
+    fn needed(&self, cause: &Cause) -> Option<i64> {
+        let is_small = cause.why == CauseWhy::Stalls(StallWhy::RoundTrip) && self.seen.about.is_far();
+        let round_trip = self.seen.about.round_trip.nanos().filter(|_| is_small)?;
+        Some(needed_window(&self.request.sides[cause.side as usize], round_trip).max(cause.window))
     }
 
     /// What TCP held most: a receive window of zero is the receiver's, a loss is the network's.
@@ -171,7 +191,7 @@ impl Held<'_> {
         if self.seen.about.captured_at != Some(receiver) || said.end.is_none() || said.content == 0 {
             return None;
         }
-        if is_held(self.share(side, Share::StreamStall) + self.share(side, Share::ConnectionStall), self.request) {
+        if is_held(said.stalled(), self.request) {
             return None;
         }
         let (begin, end) = self.life(side);
@@ -279,5 +299,25 @@ impl Held<'_> {
             is_silent: one.life.is_silent,
             ..self.application(side, CauseWhy::Between, end - begin)
         })
+    }
+}
+
+#[cfg(test)]
+mod tests {
+    use super::*;
+    use crate::answer::Shares;
+
+    #[test]
+    fn windows_that_would_do() {
+        let of = |content, sending| {
+            let mut shares = Shares::default();
+            shares[Share::Sending as usize] = sending;
+            let (first, end) = (None, None);
+            let said = answer::Direction { nanos: 0, shares, spans: None, content, first, end, stalls: 0, waited: 0 };
+            needed_window(&said, 20_000_000)
+        };
+        assert_eq!(of(1_000_000, 100_000_000), 200_000, "what is sent in a round trip");
+        assert_eq!(of(1_000_000, 10_000_000), 1_000_000, "all of it");
+        assert_eq!([of(1_000, 0), of(u64::MAX, 0)], [1_000, i64::MAX], "no time to send was seen");
     }
 }

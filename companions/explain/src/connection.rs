@@ -1,5 +1,6 @@
 //! The second walk over one connection: its frames, and at its end all that is said of it.
 
+use std::collections::HashMap;
 use std::rc::Rc;
 
 use captures::Arrival;
@@ -11,7 +12,7 @@ use crate::audit::{broken, Audit};
 use crate::beginning::Beginning;
 use crate::blocks::Blocks;
 use crate::charts::Charts;
-use crate::course::{Course, Waits};
+use crate::course::{SideCourse, Waits};
 use crate::doubts::limits_of;
 use crate::findings::Findings;
 use crate::frame_log::{self, Came};
@@ -19,12 +20,13 @@ use crate::frames::Frames;
 use crate::intervals::Stretches;
 use crate::leaks::{Candidate, Leaks};
 use crate::learning::Known;
+use crate::legs::print::Printing;
 use crate::requests::Packed;
 use crate::rounds::round_trip_of;
 use crate::seen::{end_of, About, Goaways, Seen, WindowStalls};
 use crate::side_of;
 use crate::stalls::may_be_leaks;
-use crate::stream::Stream;
+use crate::stream::{RequestFields, Stream};
 use crate::table::Table;
 use crate::tcp::Tcp;
 use crate::unanswered::Unanswered;
@@ -38,24 +40,26 @@ const LONG_ANSWER: Nanos = 100_000_000;
 const LONG: Nanos = 4;
 
 /// A connection whose frames come.
-pub struct Connection {
+pub struct WalkedConnection {
     walk: Walk,
     frames: u64,
-    all_frames: Option<Frames>,
+    all_frames: Option<Box<Frames>>,
+    /// Where both legs of proxies are looked for.
+    print: Option<Box<[Printing; 2]>>,
 }
 
-impl Connection {
+impl WalkedConnection {
     /// Of what the import, the first walk and the report say.
     pub fn new(
         known: Box<Known>,
         audit: Audit,
-        course: &mut import::Course,
+        course: &mut import::TcpCourse,
         inferred: Option<Rc<Inferred>>,
         asking: &Asking,
-    ) -> Result<Connection, Failure> {
+    ) -> Result<Box<WalkedConnection>, Failure> {
         let frames = audit.frames().unwrap_or(0);
         let stop = stop_of(&audit)?;
-        let all_frames = asking.has_frames.then(|| Frames::new(known.initials, course));
+        let all_frames = asking.has_frames.then(|| Box::new(Frames::new(known.initials, course)));
         let about = About { inferred, ..about(&known, &audit, course, stop) };
         let charts = asking.charts.as_ref().map(|choice| {
             let mut charts = Box::new(Charts::new(choice, &audit, asking.numbers));
@@ -65,34 +69,46 @@ impl Connection {
         let findings = Findings::new(audit.faults, &audit.stalls, &about);
         let unshown =
             [0, 1].map(|side| Walk::unshown_of(&about, side).map(|nanos| (Unshown::of_connection(nanos), Vec::new())));
-        let walk = Walk {
-            number: 0,
-            stopped_at: audit.stopped_at,
-            stop: None,
-            initials: Default::default(),
-            windows: Default::default(),
-            settings: Default::default(),
-            table: Table::new(about.round_trip.nanos().unwrap_or(0), asking.numbers, asking.live.clone()),
-            blocks: [(); 2].map(|()| Blocks::new(asking.names.are_wanted)),
-            signals: Default::default(),
-            leaks: if about.inferred.is_none() { leaks_of(&findings.stalls) } else { [None, None] },
-            findings,
-            unanswered: Unanswered::new(known.unanswered.clone(), known.acknowledged),
-            bursts: Default::default(),
-            unshown,
-            uses_window: [false; 2],
-            totals: Default::default(),
-            most_kept: [MOST_KEPT; 2],
-            begun: None,
-            overflow: None,
-            early_grants: Default::default(),
-            charts,
-            beginning: about.inferred.clone().map(|inferred| Box::new(Beginning::new(inferred))),
-            has_frames: [false; 2],
-            about,
-            known,
-        };
-        Ok(Connection { walk, frames, all_frames })
+        let print = asking.has_legs.then(|| Box::new([(); 2].map(|()| Printing::new(asking.numbers))));
+        Ok(Box::new(WalkedConnection {
+            walk: Walk {
+                number: 0,
+                stopped_at: audit.stopped_at,
+                stop: None,
+                initials: Default::default(),
+                windows: Default::default(),
+                settings: Default::default(),
+                table: Table::new(about.round_trip.nanos().unwrap_or(0), asking.numbers, asking.live.clone())
+                    .with_briefs(asking.has_legs),
+                blocks: [(); 2].map(|()| Blocks::new(asking.names.are_wanted)),
+                signals: Default::default(),
+                leaks: if about.inferred.is_none() { leaks_of(&findings.stalls) } else { [None, None] },
+                findings,
+                unanswered: Unanswered::new(known.unanswered.clone(), known.acknowledged),
+                bursts: Default::default(),
+                unshown,
+                uses_window: [false; 2],
+                totals: Default::default(),
+                most_kept: [MOST_KEPT; 2],
+                begun: None,
+                overflow: None,
+                early_grants: Default::default(),
+                charts,
+                beginning: about.inferred.clone().map(|inferred| Box::new(Beginning::new(inferred))),
+                asked_before: HashMap::new(),
+                has_frames: [false; 2],
+                about,
+                known,
+            },
+            frames,
+            all_frames,
+            print,
+        }))
+    }
+
+    /// What requests asked for that were open across a gap, by their streams.
+    pub fn goes_on_with(&mut self, asked: HashMap<u32, RequestFields>) {
+        self.walk.asked_before = asked;
     }
 
     /// Takes the frames that a record of it completed.
@@ -101,6 +117,7 @@ impl Connection {
         self.walk.begun = frames.begun;
         frames.each(|cut| {
             self.all_frames.iter_mut().for_each(|frames| frames.take(side_of(side), cut, at));
+            self.print.iter_mut().for_each(|print| print[side].take(cut, at.time));
             self.walk.take(asking, side, cut, (record, at))
         })
     }
@@ -116,7 +133,7 @@ impl Connection {
     }
 
     /// All that is said of it, and what its requests are told from.
-    pub fn end(mut self, said: &mut ConnectionSaid) -> Result<Rc<(Packed, Seen)>, Failure> {
+    pub fn end(mut self: Box<Self>, said: &mut ConnectionSaid) -> Result<Rc<(Packed, Seen)>, Failure> {
         if u64::from(self.walk.number) != self.frames {
             let (number, frames, here) = (said.number, self.frames, self.walk.number);
             let why = format!("connection {number} has {frames} frames by the report, and {here} here");
@@ -127,8 +144,9 @@ impl Connection {
         }
         self.walk.leaks.iter_mut().flatten().for_each(|leaks| leaks.end());
         self.cut_frames();
-        said.all_frames = self.all_frames;
-        Ok(ended(self.walk, said))
+        said.all_frames = self.all_frames.take();
+        said.print = self.print.take().map_or_else(Default::default, |print| print.map(|one| one.end()));
+        Ok(ended(self, said))
     }
 
     /// Of a stream that is over the packets of a frame whose rest did not come.
@@ -167,7 +185,7 @@ fn stop_of(audit: &Audit) -> Result<Option<Nanos>, Failure> {
     time.map(Some).ok_or_else(|| broken("it stopped without an error"))
 }
 
-fn about(known: &Known, audit: &Audit, course: &mut import::Course, stop: Option<Nanos>) -> About {
+fn about(known: &Known, audit: &Audit, course: &mut import::TcpCourse, stop: Option<Nanos>) -> About {
     let missing = known.gaps.iter().copied().chain(course.sides.iter().map(|side| side.uncaptured.first));
     let lost = missing.flatten().map(|first| first.nanos).min().unwrap_or(Nanos::MAX);
     let unseen = lost.min(stop.unwrap_or(Nanos::MAX));
@@ -180,11 +198,12 @@ fn about(known: &Known, audit: &Audit, course: &mut import::Course, stop: Option
         let stalls = audit.stalls.iter().filter(|one| one.stream == 0 && one.side == side);
         let stalls = stalls.map(|one| (one.begin.time, one.end.map_or(Nanos::MAX, |end| end.time).min(unseen)));
         let waits = Waits { own: tcp.held_before(side), asked: tcp.sent_again(1 - side) };
-        Course::new(stalls.collect(), tcp.held_times(side), pause, unseen).with_waits(waits)
+        SideCourse::new(stalls.collect(), tcp.held_times(side), pause, unseen).with_waits(waits)
     });
     About {
         opened: known.opened,
         captured_at: round_trip.place(),
+        rest: round_trip.nanos().unwrap_or(0) / 8,
         round_trip,
         unseen,
         lost,
@@ -196,7 +215,7 @@ fn about(known: &Known, audit: &Audit, course: &mut import::Course, stop: Option
 }
 
 /// From SYN to SYN ACK the way to the server and back, from there to ACK that to the client, whatever they acknowledge.
-fn handshake_of(course: &import::Course) -> [Option<Nanos>; 2] {
+fn handshake_of(course: &import::TcpCourse) -> [Option<Nanos>; 2] {
     let way = |from: Option<Arrival>, to: Option<Arrival>| Some(to?.nanos.saturating_sub(from?.nanos));
     let ways = [way(course.syn_ack, course.ack), way(Some(course.syn), course.syn_ack)];
     ways.map(|way| way.filter(|nanos| *nanos >= 0))
@@ -219,10 +238,10 @@ fn leaks_of(stalls: &[StallSaid]) -> [Option<Box<Leaks>>; 2] {
 
 type CutFrames = [Option<(u32, Box<[Nanos]>)>; 2];
 
-fn ended(walk: Walk, said: &mut ConnectionSaid) -> Rc<(Packed, Seen)> {
-    let Walk { mut about, known, table, initials, windows, settings, blocks, signals, findings, leaks, .. } = walk;
-    let Walk { unanswered, bursts, unshown, mut uses_window, stop, charts, beginning, .. } = walk;
-    let doubtful = beginning.as_ref().map(|beginning| beginning.doubtful()).unwrap_or_default();
+fn ended(one: Box<WalkedConnection>, said: &mut ConnectionSaid) -> Rc<(Packed, Seen)> {
+    let Walk { mut about, known, table, initials, windows, settings, blocks, signals, findings, leaks, .. } = one.walk;
+    let Walk { unanswered, bursts, unshown, mut uses_window, stop, charts, beginning, .. } = one.walk;
+    let doubtful = beginning.iter().flat_map(|beginning| beginning.doubtful()).collect();
     if let (Some(joined), Some(beginning)) = (&mut said.joined, beginning) {
         joined.windows = beginning.windows();
     }
@@ -246,7 +265,6 @@ fn ended(walk: Walk, said: &mut ConnectionSaid) -> Rc<(Packed, Seen)> {
     said.stopped_at = stop;
     said.closing = about.tcp.closing(about.opened.time);
     said.ended = signals.error().unwrap_or(said.closing);
-    said.connection_windows = windows.map(|window| window.largest.unwrap_or(0).max(FIRST_CREDIT));
     said.faults = findings.said;
     let (refusing, error) = (signals.refusing, signals.error());
     said.signals = signals.said();
@@ -257,16 +275,18 @@ fn ended(walk: Walk, said: &mut ConnectionSaid) -> Rc<(Packed, Seen)> {
         let found = one.map(|one| one.1).filter(|found| !found.is_empty())?;
         Some(Box::new(Stretches::new(found.into_iter().map(|(begin, end)| (begin, end, ())).collect())))
     });
+    // What is kept goes where that was.
+    drop(known);
     let seen = Seen {
         windows: WindowStalls::by_window(&said.stalls),
         refusing,
         error,
-        connection_windows: said.connection_windows,
+        connection_windows: windows.map(|window| window.largest.unwrap_or(0).max(FIRST_CREDIT)),
         granted_windows: windows.map(|window| window.first.unwrap_or(0).max(window.credit).max(FIRST_CREDIT)),
         unshown,
         changes,
         doubtful,
-        about,
+        about: Box::new(about),
     };
     Rc::new((packed, seen))
 }

@@ -3,23 +3,24 @@
 use std::rc::Rc;
 
 use captures::{flags, Arrival};
-use import::{Courses, CLIENT, SERVER};
+use import::{CLIENT, SERVER};
 use programs::Failure;
 
 use crate::answer::{
-    At, CauseKind, CauseWhy, ConnectionSaid, How, Nanos, Request, Requests, Share, StallEnd, StallWhy,
+    At, CauseKind, CauseWhy, ConnectionSaid, How, Nanos, Request, Requests, Share, StallEnd, StallSums, StallWhy,
+    WindowWaits,
 };
 use crate::audit::{read_audits, Audit};
 use crate::blocks::Names;
 use crate::building::place_early;
-use crate::connection::Connection;
+use crate::connection::WalkedConnection;
 use crate::cutter::{flag, kind, PREFACE};
-use crate::frame_log::{Came, Found, FrameLog, Payload};
+use crate::frame_log::{Came, FrameLog, Logged, Payload};
 use crate::learning::{Known, Learned};
 use crate::names::Interner;
-use crate::table::Numbers;
 use crate::telling::unsaid;
 use crate::walk::Asking;
+use cutter::Numbers;
 
 const MS: Nanos = 1_000_000;
 const GET: &[u8] = b"\x82\x44\x04/a?b\x41\x01h";
@@ -42,6 +43,8 @@ fn data(stream: u32, more: u8, length: usize) -> Vec<u8> {
 struct Talk {
     records: Vec<(usize, Nanos, Vec<u8>)>,
     has_names: bool,
+    /// To the client and back.
+    way: Nanos,
     /// Whether the server's SYN ACK was captured behind all of them.
     is_late: bool,
 }
@@ -49,7 +52,7 @@ struct Talk {
 impl Talk {
     /// Both sides have begun.
     fn new() -> Talk {
-        let mut talk = Talk { records: Vec::new(), has_names: true, is_late: false };
+        let mut talk = Talk { records: Vec::new(), has_names: true, way: 0, is_late: false };
         talk.say(CLIENT, 10, &[PREFACE.to_vec(), frame(kind::SETTINGS, 0, 0, &[])]);
         talk.say(SERVER, 10, &[frame(kind::SETTINGS, 0, 0, &[])]);
         talk
@@ -91,12 +94,12 @@ impl Talk {
     fn told(&self, report: &[&str]) -> Result<ConnectionSaid, Failure> {
         let (known, mut log) = self.known();
         let audit = self.audit(known.frames, report);
-        let mut courses = Courses::default();
         let last = self.records.last().map_or(0, |record| record.1);
-        courses.connections.push(course(last + 5 * MS));
+        let mut course = course(last + 5 * MS, self.way);
         let mut asking = Asking {
             names: Names { are_wanted: self.has_names, has_query: false },
             has_spans: true,
+            has_legs: false,
             has_frames: false,
             charts: None,
             interner: Interner::default(),
@@ -104,10 +107,10 @@ impl Talk {
             live: Rc::default(),
         };
         let mut said = unsaid(1, String::new(), String::new(), known.opened);
-        let mut connection = Connection::new(Box::new(known), audit, &mut courses.connections[0], None, &asking)?;
+        let mut connection = WalkedConnection::new(Box::new(known), audit, &mut course, None, &asking)?;
         let mut reader = log.reader().expect("a file");
         while let Some(entry) = reader.next().expect("an entry") {
-            if let Found::Frames(frames) = &entry.found {
+            if let Logged::Frames(frames) = &entry.found {
                 connection.take(&mut asking, &entry.came, frames)?;
                 connection.park();
             }
@@ -126,7 +129,7 @@ impl Talk {
             report.iter().map(|line| format!("{line}\n")).collect::<String>()
         );
         let read = read_audits(text.as_bytes(), |error| Failure::Io(error.to_string()));
-        read.ok().and_then(|mut audits| audits.pop()).expect("a report")
+        read.ok().and_then(|mut audits| audits.pop()).map(|audit| *audit).expect("a report")
     }
 
     fn requests(&self, report: &[&str]) -> Vec<Request> {
@@ -134,14 +137,15 @@ impl Talk {
     }
 }
 
-/// TCP began at 0 without a way, and ended with a FIN of the server.
-fn course(end: Nanos) -> import::Course {
+/// TCP began at 0 with such a way to the client, and ended with a FIN of the server.
+fn course(end: Nanos, way: Nanos) -> import::TcpCourse {
     let at = |packet, nanos| Arrival { packet, nanos };
     let mut sides: [import::Side; 2] = Default::default();
     sides[SERVER].fin = Some(at(90, end));
     sides[SERVER].last = Some(at(90, end));
     let (syn_ack, ack) = (Some(at(2, 0)), Some(at(3, 0)));
-    import::Course { syn: at(1, 0), syn_ack, ack, sides, ways: [Some(0); 2], held: Vec::new(), again: Vec::new() }
+    let ways = [Some(way), Some(0)];
+    import::TcpCourse { syn: at(1, 0), syn_ack, ack, sides, ways, held: Vec::new(), again: Vec::new() }
 }
 
 fn shares(request: &Request, side: usize) -> Vec<(&'static str, Nanos)> {
@@ -279,11 +283,30 @@ fn a_stall_is_a_cause() {
 }
 
 #[test]
+fn a_window_below_a_round_trip() {
+    let mut talk = stalled();
+    talk.way = 60 * MS;
+    talk.records[5] = (SERVER, 100 * MS, data(1, flag::END_STREAM, 1000));
+    let said = talk.told(&STALL).expect("an answer");
+    let (request, round_trip) = (said.requests.get(0).expect("a request"), &said.round_trip);
+    let (cause, sent) = (&request.cause, &request.sides[SERVER]);
+    assert_eq!((cause.why, cause.needed), (CauseWhy::Stalls(StallWhy::RoundTrip), Some(66_535)));
+    assert_eq!((cause.window_rate(round_trip), sent.sending_rate()), (1_092_250, Some(6_653_500)));
+    assert_eq!([request.stalled(), request.stalled_by_both(), sent.stalled()], [60 * MS; 3]);
+    let waits = WindowWaits::new(&said);
+    assert_eq!(waits.of_cause(&request), Some(&StallSums { count: 1, longest: 60 * MS, nanos: 60 * MS }));
+    assert_eq!(waits.times(&request), 1);
+    talk.way = 0;
+    assert_eq!(talk.requests(&STALL)[0].cause.needed, None, "both ends are too near to tell");
+}
+
+#[test]
 fn a_stall_without_an_end_hangs() {
     let mut talk = stalled();
     talk.records.truncate(4);
     let one = &talk.requests(&STALL[..1])[0];
     assert_eq!((one.is_hung, one.ended.how), (true, How::Fin));
+    assert_eq!((one.stalled_before(), one.cause.needed), (Some(0), None));
     assert_eq!(shares(one, SERVER), [("waiting", 10), ("stream_stall", 5)]);
 }
 

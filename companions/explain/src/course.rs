@@ -12,9 +12,7 @@ const MOST_LAST: usize = 4;
 const PART: Nanos = 20;
 
 #[derive(Clone, Debug, Default)]
-pub struct Course {
-    /// The longest pause within sending.
-    pub pause: Nanos,
+pub struct SideCourse {
     /// The time from which something was not seen, or not judged.
     pub unseen: Nanos,
     /// The connection's stalls and TCP.
@@ -25,11 +23,14 @@ pub struct Course {
     sent_to: Nanos,
     sent_from: Nanos,
     next: usize,
+    /// The end of what holds back before that.
+    held_to: Nanos,
     /// Since when the side sends without a longer pause.
     pub sends_since: Nanos,
     /// When the last frames of the side came, also those of no stream, the latest first.
     last: [Nanos; MOST_LAST],
-    waits: Waits,
+    /// None where it held back nothing that a direction begins with.
+    waits: Option<Box<Waits>>,
 }
 
 /// When TCP held back what a direction begins with.
@@ -41,35 +42,43 @@ pub struct Waits {
     pub asked: Vec<Interval>,
 }
 
-impl Course {
+impl SideCourse {
     /// By stalls of the connection's window, and stretches in which TCP held back.
-    pub fn new(stalls: Vec<Interval>, held: Vec<Interval>, pause: Nanos, unseen: Nanos) -> Course {
+    pub fn new(stalls: Vec<Interval>, held: Vec<Interval>, pause: Nanos, unseen: Nanos) -> SideCourse {
         let stalled = disjoint(stalls);
         let held = without(&disjoint(held), &stalled);
         let stalled = stalled.iter().map(|one| (one.0, one.1, Share::ConnectionStall));
         let mut marked: Vec<_> = stalled.chain(held.iter().map(|one| (one.0, one.1, Share::Tcp))).collect();
         marked.sort_unstable();
-        Course {
-            pause,
+        SideCourse {
             unseen,
             held: Marks::of(pause, marked.into_iter()),
             sent: Marks::new(pause),
             sent_to: Nanos::MIN,
             sent_from: Nanos::MIN,
             next: 0,
+            held_to: Nanos::MIN,
             sends_since: Nanos::MAX,
             last: [Nanos::MIN; MOST_LAST],
-            waits: Waits::default(),
+            waits: None,
         }
     }
 
-    pub fn with_waits(self, mut waits: Waits) -> Course {
+    /// The longest pause within sending.
+    #[inline]
+    pub fn pause(&self) -> Nanos {
+        self.held.pause
+    }
+
+    pub fn with_waits(self, mut waits: Waits) -> SideCourse {
         waits.own = disjoint(waits.own);
         waits.asked.sort_unstable_by_key(|one| one.1);
-        Course { waits, ..self }
+        let is_needed = !(waits.own.is_empty() && waits.asked.is_empty());
+        SideCourse { waits: is_needed.then(|| Box::new(waits)), ..self }
     }
 
     /// Packets with bytes of a stream's frame came.
+    #[inline]
     pub fn sent(&mut self, times: &[Nanos]) {
         if times.last() == Some(&self.sent_to) {
             return;
@@ -79,10 +88,11 @@ impl Course {
         }
     }
 
+    #[inline(never)]
     fn sent_at(&mut self, time: Nanos) {
         let from = self.sent_to;
         self.sent_to = time.max(from);
-        let is_sending = from != Nanos::MIN && time.saturating_sub(from) <= self.pause;
+        let is_sending = from != Nanos::MIN && time.saturating_sub(from) <= self.pause();
         let mut at = from.max(self.sent.end());
         while let Some((begin, end, share)) = self.held.stretch(self.next).filter(|one| one.0 < time) {
             if is_sending {
@@ -90,6 +100,7 @@ impl Course {
             }
             self.sent.push(begin, end, share);
             at = at.max(end);
+            self.held_to = end;
             self.next += 1;
         }
         if is_sending {
@@ -100,10 +111,11 @@ impl Course {
     }
 
     /// A frame of the side came, after all that it is about is done.
+    #[inline]
     pub fn came(&mut self, time: Nanos) {
-        if time > self.last[0] {
-            self.last.rotate_right(1);
-            self.last[0] = time;
+        let [first, second, third, _] = self.last;
+        if time > first {
+            self.last = [time, first, second, third];
         }
     }
 
@@ -117,6 +129,7 @@ impl Course {
     }
 
     /// How many stretches are kept; and lets go of those that no direction needs, which none before a moment does.
+    #[inline]
     pub fn kept(&self) -> usize {
         self.sent.len()
     }
@@ -127,14 +140,21 @@ impl Course {
         }
     }
 
-    /// Whether nothing holds back.
-    pub fn is_free(&self) -> bool {
-        self.held.is_empty()
-    }
-
-    /// Whether there is nothing to tell a longer pause by than that it is one.
-    pub fn is_idle(&self, begin: Nanos) -> bool {
-        self.held.is_empty() && self.sent.end() <= begin
+    /// What all of a stretch is in which nothing of a stream was sent, where that is seen at once: a pause, or a longer
+    /// one, in which nothing holds back, or a part of the last of the stretches that are known.
+    #[inline]
+    pub fn one_share(&self, begin: Nanos, end: Nanos, is_within: bool) -> Option<Share> {
+        let is_pause = end - begin <= self.pause();
+        let free = Some(if is_pause { Share::Sending } else { Share::Idle });
+        if is_within || is_pause {
+            let is_free = self.held.is_empty() || end <= self.sent_to && begin >= self.held_to;
+            return free.filter(|_| is_free);
+        }
+        match self.sent.last() {
+            Some((from, to, share)) if from <= begin && end <= to => Some(share),
+            Some((_, to, _)) if to > begin => None,
+            _ => free.filter(|_| self.held.is_empty()),
+        }
     }
 
     /// How long TCP held back within a stretch of time.
@@ -146,10 +166,10 @@ impl Course {
 
     /// When TCP held back what a direction begins with, which was asked for at a time.
     pub fn waits(&self, begin: Nanos, end: Nanos, asked: Nanos) -> Vec<Interval> {
-        let (own, again) = (&self.waits.own, &self.waits.asked);
-        if own.is_empty() && again.is_empty() {
-            return Vec::new();
-        }
+        let Waits { own, asked: again } = match &self.waits {
+            Some(waits) => &**waits,
+            None => return Vec::new(),
+        };
         let before = own.partition_point(|one| one.0 < end);
         let own = own[..before].iter().rev().take_while(|one| one.1 > begin).take(MOST_WAITS);
         let behind = again.partition_point(|one| one.1 <= asked);
@@ -161,7 +181,7 @@ impl Course {
     /// The parts of a stretch in which nothing of a stream was sent, each with the marks that are known of it; of a
     /// pause, or within a frame, those of what holds back alone.
     pub fn parts(&self, begin: Nanos, end: Nanos, is_within: bool) -> [(Nanos, Nanos, &Marks); 3] {
-        let is_one = is_within || end - begin <= self.pause;
+        let is_one = is_within || end - begin <= self.pause();
         let from = if is_one { end } else { self.sent_from.max(begin).min(end) };
         let to = self.sent.end().max(from).min(end);
         [(begin, from, &self.held), (from, to, &self.sent), (to, end, &self.held)]
@@ -172,7 +192,7 @@ impl Course {
 mod tests {
     use super::*;
 
-    fn spans(course: &Course, begin: Nanos, end: Nanos) -> Vec<(Nanos, Nanos, &'static str)> {
+    fn spans(course: &SideCourse, begin: Nanos, end: Nanos) -> Vec<(Nanos, Nanos, &'static str)> {
         let mut found = Vec::new();
         for (begin, end, marks) in course.parts(begin, end, false).into_iter().filter(|part| part.0 < part.1) {
             marks.spans(begin, end, false, |from, to, share| {
@@ -185,7 +205,7 @@ mod tests {
 
     #[test]
     fn other_streams_are_sent_where_nothing_holds_back() {
-        let mut course = Course::new(vec![], vec![(13, 15), (29, 31), (70, 90)], 5, 1000);
+        let mut course = SideCourse::new(vec![], vec![(13, 15), (29, 31), (70, 90)], 5, 1000);
         course.sent(&[10, 12, 16, 20]);
         course.sent(&[28, 32, 80]);
         course.came(80);
@@ -217,7 +237,7 @@ mod tests {
     #[test]
     fn what_a_direction_waits_for() {
         let waits = Waits { own: vec![(10, 20), (50, 60)], asked: vec![(5, 40), (30, 45), (2, 90)] };
-        let course = Course::new(vec![], vec![], 5, 1000).with_waits(waits);
+        let course = SideCourse::new(vec![], vec![], 5, 1000).with_waits(waits);
         assert_eq!(course.waits(6, 55, 25), [(10, 20), (25, 40), (50, 55)]);
         assert_eq!(course.waits(6, 100, 30), [(10, 20), (30, 90)]);
         assert_eq!(course.waits(20, 50, 45), []);

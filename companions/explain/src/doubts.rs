@@ -1,12 +1,12 @@
 //! What limits an answer: what was not audited, what was lost, clocks that go back, and what cannot be seen
 //! (docs/WHY.md, 8).
 
-use std::collections::BTreeMap;
+use std::collections::{BTreeMap, HashSet};
 
 use import::{help_for, Courses, Older, Summary, Uncaptured};
 use reports::grouped;
 
-use crate::answer::{Answer, Files, NotAudited, Place, RoundTrip, Warning};
+use crate::answer::{Answer, ConnectionSaid, Files, NotAudited, Place, RoundTrip, Warning};
 use crate::joining::is_told;
 use crate::passed::passed_over;
 use crate::rounds::NEAR;
@@ -14,10 +14,26 @@ use crate::side_of;
 use crate::tcp::at_of;
 use crate::words::{count, reason_words, time_of};
 
-const ONE_DIRECTION: &str = "one-direction";
+pub const ONE_DIRECTION: &str = "one-direction";
+
+/// How many pairs were not seen to open, and were not joined: those of which one direction was captured, and others.
+pub struct Unjoined {
+    one_way: u64,
+    others: u64,
+}
+
+impl Unjoined {
+    pub fn of(summary: &Summary, courses: &Courses) -> Unjoined {
+        let mut found = Unjoined { one_way: 0, others: 0 };
+        for pair in summary.unopened.iter().filter(|pair| !is_told(pair, courses)) {
+            *(if pair.is_one_way { &mut found.one_way } else { &mut found.others }) += 1;
+        }
+        found
+    }
+}
 
 /// What the capture holds beside what was audited, by reasons.
-pub fn not_audited(answer: &Answer, summary: &Summary, courses: &Courses) -> Vec<NotAudited> {
+pub fn not_audited(answer: &Answer, summary: &Summary, unjoined: &Unjoined) -> Vec<NotAudited> {
     let mut reasons: BTreeMap<&str, u64> = BTreeMap::new();
     for one in answer.connections.iter().filter(|one| !one.is_audited()) {
         let reason = if one.reason.is_empty() { one.outcome.name() } else { &one.reason };
@@ -25,15 +41,12 @@ pub fn not_audited(answer: &Answer, summary: &Summary, courses: &Courses) -> Vec
     }
     let mut said: Vec<NotAudited> = Vec::new();
     let mut say = |reason: &str, count: u64, text: String| said.push(NotAudited { reason: reason.into(), count, text });
-    let not_joined = || summary.unopened.iter().filter(|pair| !is_told(pair, courses));
-    let one_way = not_joined().filter(|pair| pair.is_one_way).count() as u64;
-    if one_way > 0 {
-        *reasons.entry(ONE_DIRECTION).or_default() += one_way;
+    if unjoined.one_way > 0 {
+        *reasons.entry(ONE_DIRECTION).or_default() += unjoined.one_way;
     }
     reasons.iter().for_each(|(why, number)| say(why, *number, reason_words(why, &count(*number, "connection"))));
-    let unopened = not_joined().count() as u64 - one_way;
-    if unopened > 0 {
-        say("unopened", unopened, count(unopened, "connection") + " that began before the capture");
+    if unjoined.others > 0 {
+        say("unopened", unjoined.others, count(unjoined.others, "connection") + " that began before the capture");
     }
     for (name, number, words) in passed_over(summary, answer.audited().next().is_none()) {
         say(name, number, format!("{} {words}", count(number, "packet")));
@@ -46,7 +59,7 @@ fn warning(kind: &'static str, text: String) -> Warning {
 }
 
 /// What stands before all else. `names` are those that the import has for connections, in their order.
-pub fn doubts_of(answer: &Answer, summary: &Summary, courses: &Courses) -> Vec<Warning> {
+pub fn doubts_of(answer: &Answer, summary: &Summary, doubled: Option<Warning>) -> Vec<Warning> {
     let mut said = clocks(&answer.files, summary);
     if answer.audited().next().is_none() {
         let packets = count(answer.packets, "packet");
@@ -55,15 +68,19 @@ pub fn doubts_of(answer: &Answer, summary: &Summary, courses: &Courses) -> Vec<W
         said.push(warning("nothing-audited", text));
     }
     said.extend(cut(answer));
-    said.extend(doubled(courses));
+    said.extend(doubled);
     said.extend(one_direction(answer, summary));
     said.extend(dropped(answer, summary));
+    let going_on = |one: &ConnectionSaid| one.joined.as_ref().and_then(|joined| joined.behind.connection());
+    let going_on: HashSet<u64> = answer.connections.iter().filter_map(going_on).collect();
     for one in &answer.connections {
         for (side, offset) in &one.gaps {
             let offset = grouped(*offset);
-            let text = format!(
-                "bytes of the {side} are missing from offset {offset} on: what is found behind it may not have happened"
-            );
+            let behind = match going_on.contains(&one.number) {
+                true => "the connection is joined again behind that",
+                false => "what is found behind it may not have happened",
+            };
+            let text = format!("bytes of the {side} are missing from offset {offset} on: {behind}");
             said.push(Warning { kind: "gap", text, connection: Some(one.number), at: Some(one.opened) });
         }
     }
@@ -105,7 +122,7 @@ fn clock(files: &Files, one: &Older, packets: u64, left: Option<u64>) -> Warning
     }
     let many = match packets {
         0 | 1 => String::new(),
-        _ => format!(", and in {} other places", grouped(packets - 1)),
+        _ => format!(", and in {}", count(packets - 1, "other place")),
     };
     let help = match left {
         Some(left) => format!("{} too late for --reorder: reordercap", count(left, "packet")),
@@ -147,14 +164,14 @@ fn dropped(answer: &Answer, summary: &Summary) -> Vec<Warning> {
         let text = format!("{packets} were dropped while this was captured, as the capture says (tcpdump -B)");
         said.push(warning("dropped", text));
     }
-    let of_sides = |sides: &[Uncaptured; 2]| sides[0].bytes + sides[1].bytes;
-    let some: Vec<_> = answer.connections.iter().filter(|one| of_sides(&one.uncaptured) > 0).collect();
-    let sum = |number: fn(&Uncaptured) -> u64| some.iter().flat_map(|one| &one.uncaptured).map(number).sum::<u64>();
+    let some: Vec<_> = answer.connections.iter().filter(|one| !one.uncaptured.is_empty()).collect();
+    let of_sides = || some.iter().flat_map(|one| &one.uncaptured).map(|one| &one.1);
+    let sum = |number: fn(&Uncaptured) -> u64| of_sides().map(number).sum::<u64>();
     if let Some(first) = some.first() {
-        let (bytes, connections) = (grouped(sum(|one| one.bytes)), count(some.len() as u64, "connection"));
+        let (bytes, connections) = (count(sum(|one| one.bytes), "byte"), count(some.len() as u64, "connection"));
         let packets = count(sum(|one| one.packets), "packet");
         let text = format!(
-            "{bytes} bytes of {connections} were acknowledged and never captured: {packets} or more were dropped while \
+            "{bytes} of {connections} were acknowledged and never captured: {packets} or more were dropped while \
              they were captured (tcpdump -B)"
         );
         said.push(Warning { connection: Some(first.number), at: Some(first.opened), ..warning("dropped", text) });
@@ -163,13 +180,14 @@ fn dropped(answer: &Answer, summary: &Summary) -> Vec<Warning> {
 }
 
 /// Connections of which most segments came twice, as where a bridge and its port are both captured.
-fn doubled(courses: &Courses) -> Option<Warning> {
-    let is_one = |course: &import::Course| {
+pub fn doubled(courses: &Courses) -> Option<Warning> {
+    let is_one = |course: &import::TcpCourse| {
         let [client, server] = &course.sides;
         4 * (u128::from(client.doubled) + u128::from(server.doubled))
             > u128::from(client.segments) + u128::from(server.segments)
     };
-    let mut found = (1..).zip(&courses.connections).filter(|one| is_one(one.1)).map(|one| one.0);
+    let courses = (1..).zip(courses.connections.iter().map(Option::as_deref));
+    let mut found = courses.filter(|one| one.1.map_or(false, is_one)).map(|one| one.0);
     let first = found.next()?;
     let connections = count(1 + found.count() as u64, "connection");
     let text = format!("each packet of {connections} was captured twice: name one interface");

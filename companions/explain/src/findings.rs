@@ -14,6 +14,7 @@ use crate::learning::Known;
 use crate::seen::{About, Key};
 use crate::settings::Settings;
 use crate::stalls::{end_by, ended_by, stall_said};
+use crate::tcp::at_of;
 
 /// What the report says, of which some lies ahead.
 #[derive(Debug)]
@@ -25,6 +26,8 @@ pub struct Findings {
     pub said: Vec<FaultSaid>,
     /// Grants of the windows that faults are about.
     pub grants: HashMap<Key, Grants>,
+    /// The frame at which the next finding stands; past all frames where there is none.
+    next: u64,
 }
 
 #[derive(Clone, Copy, Debug)]
@@ -62,19 +65,27 @@ impl Findings {
         });
         let mut ends: Vec<End> = begins.chain(ends).collect();
         ends.sort_by_key(|end| std::cmp::Reverse(end.at.frame));
-        Findings {
+        let mut findings = Findings {
             grants: windows_of(&faults),
             faults: faults.into_iter().peekable(),
             ends,
             stalls: stalls.iter().map(said).collect(),
             said: Vec::new(),
-        }
+            next: 0,
+        };
+        findings.look_ahead();
+        findings
     }
 
     /// Whether a finding stands at this frame.
-    pub fn stands_at(&mut self, frame: u32) -> bool {
-        self.ends.last().map_or(false, |end| end.at.frame <= frame)
-            || self.faults.peek().map_or(false, |fault| fault.frame <= u64::from(frame))
+    #[inline]
+    pub fn stands_at(&self, frame: u32) -> bool {
+        self.next <= u64::from(frame)
+    }
+
+    fn look_ahead(&mut self) {
+        let end = self.ends.last().map_or(u64::MAX, |end| u64::from(end.at.frame));
+        self.next = self.faults.peek().map_or(u64::MAX, |fault| fault.frame).min(end);
     }
 
     /// Takes the findings at a frame, of which everything has its effect, by the credits of windows.
@@ -87,6 +98,7 @@ impl Findings {
         while let Some(fault) = self.faults.next_if(|fault| fault.frame <= frame) {
             self.fault(here, fault, &credit)?;
         }
+        self.look_ahead();
         Ok(())
     }
 
@@ -97,8 +109,9 @@ impl Findings {
         };
         let StallAt { frame, record, time, credit: told } = end.at;
         if frame == 0 {
-            // It goes on since before the capture: it began among frames that were made up.
-            said.begin = here.about.opened;
+            // It goes on since before the capture, or since the frame that the cut divides.
+            let divided = here.about.inferred.as_ref().and_then(|inferred| inferred.divided[said.side as usize]);
+            said.begin = divided.map_or(here.about.opened, at_of);
             return Ok(());
         }
         if (frame, record, time) != (here.at.frame, here.record, here.at.time) {

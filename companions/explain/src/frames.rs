@@ -1,6 +1,6 @@
 //! The frames of a connection, for what the captures of both of its ends tell together.
 
-use import::{Course, Held, Why};
+use import::{Held, TcpCourse, Why};
 use reports::Side;
 
 use crate::answer::{At, Nanos};
@@ -109,7 +109,7 @@ pub struct Grant {
 
 impl Frames {
     /// None yet, of a connection that began with these sequence numbers.
-    pub(crate) fn new(initials: [Option<u32>; 2], course: &Course) -> Frames {
+    pub(crate) fn new(initials: [Option<u32>; 2], course: &TcpCourse) -> Frames {
         let syn_ack = course.syn_ack.map(|arrival| arrival.nanos);
         let of = |side: usize, why: Why| {
             course.held.iter().filter(move |one| usize::from(one.side) == side && one.why == why)
@@ -120,6 +120,7 @@ impl Frames {
     }
 
     /// Takes the next one, which a packet completes.
+    #[inline(never)]
     pub(crate) fn take(&mut self, side: Side, cut: &Cut<'_>, at: At) {
         let head = cut.head;
         self.push(Frame::new(side, (head.kind, head.flags), head.stream, head.length, (at.packet, at.time)));
@@ -151,7 +152,7 @@ impl Frames {
 }
 
 /// What a side sent again, with the times at which TCP knows that it was sent first.
-fn resent_of<'a>(course: &Course, side: usize, held: impl Iterator<Item = &'a Held>) -> Vec<Resent> {
+fn resent_of<'a>(course: &TcpCourse, side: usize, held: impl Iterator<Item = &'a Held>) -> Vec<Resent> {
     let mut known = course.again.iter().filter(|one| usize::from(one.side) == side).peekable();
     let mut resent = Vec::<Resent>::new();
     for one in held {
@@ -165,7 +166,7 @@ fn resent_of<'a>(course: &Course, side: usize, held: impl Iterator<Item = &'a He
 #[cfg(test)]
 mod tests {
     use captures::Arrival;
-    use import::{Again, Course, Held, Why};
+    use import::{Again, Held, TcpCourse, Why};
     use reports::Side;
 
     use super::{Frame, Frames, Resent};
@@ -173,7 +174,7 @@ mod tests {
     #[test]
     fn what_came_again() {
         let held = |begin, end, why, side| Held { begin, end, first: 1, last: None, bytes: 7, why, side };
-        let course = Course {
+        let course = TcpCourse {
             syn: Arrival { packet: 1, nanos: 5 },
             syn_ack: None,
             ack: None,

@@ -18,7 +18,7 @@ impl Held<'_> {
             return None;
         }
         let life = (self.request.opened.time, end.time);
-        let (_, _, last) = self.seen.windows.get(&(side, stream))?.most(life)?;
+        let (_, _, last) = self.seen.windows.get(side, stream)?.most(life)?;
         let until = end.time.min(about.unseen);
         if last.end.map_or(false, |granted| granted.time <= until) {
             return None;
@@ -28,8 +28,9 @@ impl Held<'_> {
             _ => StallWhy::GrantedNothing,
         };
         let setting = self.seen.setting(side, last.begin.frame);
-        let cause = Cause { why: CauseWhy::Stalls(why), first: Some(last.begin), last: Some(end), setting, ..*cause };
-        Some((cause, until - last.begin.time.max(life.0)))
+        let nanos = until - last.begin.time.max(life.0);
+        let (why, first, last) = (CauseWhy::Stalls(why), Some(last.begin), Some(end));
+        Some((Cause { why, first, last, needed: None, setting, ..*cause }, nanos))
     }
 
     /// Whether a side sent more on the stream behind a moment, as where the audit stopped.

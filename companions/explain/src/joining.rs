@@ -2,67 +2,46 @@
 //! each is.
 
 use import::{Courses, Fate, Unopened};
+pub use joined::{assumed_of, sure_of, Sure};
 use joined::{Assumed, Grade, How, Inferred, What};
 use programs::Failure;
 use reports::Finding;
 
-use crate::answer::Nanos;
+use crate::answer::{Nanos, Request};
 use crate::audit::{broken, Audit, Stalled};
 use crate::beginning::Doubtful;
-
-/// Rules that a frame breaks by itself, whatever was before it.
-const CERTAIN: [&str; 7] = [
-    "wrong-stream",
-    "wrong-size",
-    "bad-padding",
-    "bad-setting",
-    "zero-connection-grant",
-    "zero-stream-grant",
-    "bad-priority",
-];
-/// Rules about credits.
-const OF_WINDOWS: [&str; 5] =
-    ["connection-overrun", "stream-overrun", "connection-overflow", "setting-overflow", "stream-overflow"];
-
-/// How sure a stall is that is claimed.
-#[derive(Clone, Copy, Debug, PartialEq, Eq)]
-pub enum Sure {
-    /// All that its window depends on was seen.
-    Certain,
-    Strong,
-    Likely,
-    /// Of this window or another one.
-    Either,
-}
-
-impl Sure {
-    /// As documents and rows have it.
-    pub fn name(self) -> &'static str {
-        match self {
-            Sure::Certain => "certain",
-            Sure::Strong => "strong",
-            Sure::Likely => "likely",
-            Sure::Either => "either",
-        }
-    }
-
-    fn of(grade: Grade) -> Option<Sure> {
-        match grade {
-            Grade::Strong => Some(Sure::Strong),
-            Grade::Likely => Some(Sure::Likely),
-            Grade::Either => Some(Sure::Either),
-            Grade::Broken | Grade::Bound => None,
-        }
-    }
-}
 
 /// How a connection was joined, as the answer has it.
 #[derive(Clone, Debug)]
 pub struct JoinedSaid {
     pub how: How,
+    pub behind: Behind,
     /// What is assumed of windows, in the order in which [`Inferred`] has them; and when something may have waited for one
     /// that was not seen to be used up.
     pub windows: Vec<(Assumed, Doubtful)>,
+}
+
+/// Whether a connection was joined behind a gap.
+#[derive(Clone, Copy, Debug, PartialEq, Eq)]
+pub enum Behind {
+    No,
+    /// It goes on with the connection of this number, and is the so-manieth to do so.
+    Gap {
+        connection: u64,
+        turn: u32,
+    },
+    /// What was captured of it before the gap could not be joined.
+    First,
+}
+
+impl Behind {
+    /// Which connection it goes on with.
+    pub fn connection(self) -> Option<u64> {
+        match self {
+            Behind::Gap { connection, .. } => Some(connection),
+            Behind::No | Behind::First => None,
+        }
+    }
 }
 
 impl JoinedSaid {
@@ -72,52 +51,38 @@ impl JoinedSaid {
             How::Syn | How::Answer | How::Handshake => None,
         }
     }
+
+    /// Whether a request may have been stalled by a window of which that is not known.
+    pub fn may_be_stalled(&self, request: &Request) -> bool {
+        let is_its = |what: What| match what {
+            What::Connection => true,
+            What::Initial => !request.was_open,
+            What::Stream(stream) => stream == request.stream,
+        };
+        let windows = self.windows.iter().filter(|one| is_its(one.0.what) && request.sides[one.0.side].content > 0);
+        let is_within = |one: (Nanos, Nanos)| one.0 < request.until && one.1 > request.opened.time;
+        windows.map(|one| one.1.map_or(one.0.grade == Grade::Broken, is_within)).any(|may_be| may_be)
+    }
 }
 
 /// Whether a connection that began before the capture was joined, and both directions of it were captured: without the
 /// grants of the other side no window can be told.
 pub fn is_told(pair: &Unopened, courses: &Courses) -> bool {
-    let sides = match pair.fate {
-        Fate::Joined(connection) => courses.connections.get(connection).map(|course| &course.sides),
+    !pair.is_one_way && is_joined_and_told(pair.fate, courses)
+}
+
+/// The same of what follows a gap.
+pub fn is_joined_and_told(fate: Fate, courses: &Courses) -> bool {
+    let course = match fate {
+        Fate::Joined(connection) => courses.connections.get(connection).and_then(Option::as_deref),
         Fate::NotAsked | Fate::Unjoined(_) => None,
     };
-    !pair.is_one_way && sides.map_or(false, |sides| sides.iter().all(|side| side.last.is_some()))
-}
-
-/// What is assumed of the window of a stream, or of the connection.
-pub fn assumed_of(inferred: &Inferred, side: usize, stream: u32) -> Option<&Assumed> {
-    let what = match stream {
-        0 => What::Connection,
-        _ if inferred.open.binary_search(&stream).is_ok() => What::Stream(stream),
-        _ => What::Initial,
-    };
-    inferred.assumed.iter().find(|one| (one.side, one.what) == (side, what))
-}
-
-/// Whether all that the window of a stream depends on was seen at some time: it opened since the capture began, and an
-/// initial window that was seen is in force.
-fn is_known(inferred: &Inferred, side: usize, stream: u32, time: Nanos) -> bool {
-    let is_new = stream != 0 && inferred.open.binary_search(&stream).is_err();
-    is_new && inferred.changed[side].map_or(false, |changed| changed < time)
-}
-
-/// How sure a stall is that began at some time; none where it is not claimed.
-pub fn sure_of(inferred: &Inferred, side: usize, stream: u32, begin: Nanos) -> Option<Sure> {
-    match is_known(inferred, side, stream, begin) {
-        true => Some(Sure::Certain),
-        false => Sure::of(assumed_of(inferred, side, stream)?.grade),
-    }
+    course.map_or(false, |course| course.sides.iter().all(|side| side.last.is_some()))
 }
 
 /// Whether a fault is claimed, and if so whether what is inferred may be its reason.
 fn claimed(inferred: &Inferred, fault: &Finding) -> Option<bool> {
-    let kind = fault.kind.name();
-    if OF_WINDOWS.contains(&kind) {
-        let time = Nanos::try_from(fault.time).unwrap_or(0);
-        let stream = u32::try_from(fault.stream).unwrap_or(0);
-        return is_known(inferred, fault.side as usize, stream, time).then_some(false);
-    }
-    Some(!CERTAIN.contains(&kind))
+    joined::claimed(inferred, fault.kind.name(), (fault.side as usize, fault.stream), fault.time)
 }
 
 /// Whether what is inferred may be the reason of a fault that is claimed.
@@ -145,8 +110,12 @@ pub fn without_beginning(audit: &mut Audit, inferred: &Inferred) -> Result<bool,
     audit.faults.retain(|fault| !inferred.is_doubtful && claimed(inferred, fault).is_some());
     audit.faults.iter_mut().for_each(|fault| fault.frame -= u64::from(made));
     audit.stopped_at = audit.stopped_at.map(|frame| frame - made);
+    // What goes on since before the capture may have begun with the frame that the cut divides.
+    for one in audit.stalls.iter_mut().filter(|one| is_in_beginning(one.begin.frame)) {
+        one.begin.time = inferred.divided[one.side].map_or(one.begin.time, |last| last.nanos);
+    }
     let is_claimed = |one: &Stalled| {
-        let was_before = one.end.map_or(false, |end| is_in_beginning(end.frame));
+        let was_before = one.end.map_or(false, |end| is_in_beginning(end.frame) || end.time < one.begin.time);
         !was_before && !inferred.is_doubtful && sure_of(inferred, one.side, one.stream, one.begin.time).is_some()
     };
     audit.stalls.retain(is_claimed);
@@ -160,7 +129,9 @@ pub fn without_beginning(audit: &mut Audit, inferred: &Inferred) -> Result<bool,
 #[cfg(test)]
 pub mod tests {
     use super::*;
-    use joined::Told;
+    use crate::answer::Share;
+    use crate::legs::account_rules::request;
+    use joined::SideEvidence;
     use reports::{Kind, Side};
 
     const NONE: Option<Nanos> = None;
@@ -171,13 +142,14 @@ pub mod tests {
 
     pub fn inferred(assumed: Vec<Assumed>) -> Inferred {
         Inferred {
-            sides: Told::Fields,
+            sides: SideEvidence::Fields,
             borders: [None; 2],
             made: [3, 2],
             assumed,
             acknowledged: [0; 2],
             longest: [0; 2],
             changed: [NONE, Some(50)],
+            divided: [None; 2],
             open: vec![3, 5],
             is_doubtful: false,
         }
@@ -209,5 +181,18 @@ pub mod tests {
         assert_eq!([of(&one, "stream-overrun", 3, 99), of(&one, "stream-overrun", 7, 50)], [None, None]);
         assert_eq!(of(&one, "stream-overrun", 7, 51), Some(false));
         assert_eq!([of(&one, "wrong-size", 3, 1), of(&one, "not-opened", 9, 1)], [Some(false), Some(true)]);
+    }
+    #[test]
+    fn windows_of_which_a_stall_cannot_be_told() {
+        let mut one = request(0, [&[], &[(100, Share::Sending)]]);
+        one.sides[1].content = 1;
+        let may_be = |what, grade, doubtful| {
+            let windows = vec![(assumed(1, what, grade), doubtful)];
+            JoinedSaid { how: How::Syn, behind: Behind::No, windows }.may_be_stalled(&one)
+        };
+        assert!(may_be(What::Connection, Grade::Bound, Some((50, 200))));
+        assert!(!may_be(What::Connection, Grade::Bound, Some((100, 200))), "when it was over");
+        assert_eq!([Grade::Broken, Grade::Strong].map(|grade| may_be(What::Initial, grade, None)), [true, false]);
+        assert_eq!([1, 3].map(|stream| may_be(What::Stream(stream), Grade::Broken, None)), [true, false]);
     }
 }

@@ -182,7 +182,7 @@ mod tests {
     use super::*;
     use crate::answer::At;
     use crate::stream::Reset;
-    use crate::table::Numbers;
+    use cutter::Numbers;
     use std::rc::Rc;
 
     fn stream(number: u32, content: u64, granted: u64) -> Stream {

@@ -10,7 +10,7 @@ use import::{help_for, Addresses, Listener, Sender, Summary};
 use programs::{temporary_failure, Failure};
 
 use crate::answer::{At, Files, Nanos};
-use crate::cutter::Cutter;
+use crate::cutter::{Cut, Cutter, Head};
 use crate::frame_log::{wants, Came, FrameLog, Payload};
 use crate::names::text_of;
 use crate::reactions::{Quickest, Reactions};
@@ -25,6 +25,8 @@ pub struct Known {
     pub last: At,
     /// The first record whose time lies before that of the connection's record before it, with its packet.
     pub back: Option<(u64, u64)>,
+    /// By how much they go back, at most.
+    pub late: u64,
     /// What helps there.
     pub help: &'static str,
     /// The initial sequence numbers of both sides.
@@ -40,6 +42,8 @@ pub struct Known {
     pub made_bytes: [u64; 2],
     /// Of each side the stream of a frame whose rest did not come, and when its packets came.
     pub cuts: [Option<(u32, Box<[Nanos]>)>; 2],
+    /// Of these frames how much came when.
+    pub partial: [Option<Box<Partial>>; 2],
     /// The quickest reactions of each side to what the other one sends.
     pub quickest: [Quickest; 2],
     /// How many SETTINGS of each side were acknowledged, and the frames of the first that were not.
@@ -47,6 +51,27 @@ pub struct Known {
     pub unanswered: Vec<u32>,
     /// What each side says first, and the packet of it.
     pub spoken: [(Spoken, u64); 2],
+}
+
+/// A frame whose rest did not come.
+#[derive(Debug)]
+pub struct Partial {
+    pub head: Head,
+    pub payload: Box<[u8]>,
+    pub times: Box<[Nanos]>,
+    pub arrived: Box<[u32]>,
+}
+
+impl Partial {
+    fn of(cut: &Cut<'_>) -> Partial {
+        let Cut { head, payload, times, arrived } = *cut;
+        let payload = &payload[..payload.len().min(1)];
+        Partial { head, payload: payload.into(), times: times.into(), arrived: arrived.into() }
+    }
+
+    pub fn cut(&self) -> Cut<'_> {
+        Cut { head: self.head, payload: &self.payload, times: &self.times, arrived: &self.arrived }
+    }
 }
 
 /// What is learned of a connection.
@@ -81,7 +106,7 @@ impl Learned {
     pub fn new(record: u64, opened: At, sequence: u32) -> Learned {
         let side = |is_client| Side {
             flow: Flow::default(),
-            cutter: Cutter::new(is_client, wants),
+            cutter: Cutter::new(is_client),
             arrival: 0,
             spoken: Default::default(),
         };
@@ -158,7 +183,7 @@ impl Learned {
         if *is_made {
             self.made_bytes[side] += data.len() as u64;
         }
-        one.cutter.take(&data, at.time, |cut| {
+        one.cutter.take(&data, at.time, wants, |cut| {
             if *is_made {
                 *made += 1;
             } else {
@@ -178,6 +203,7 @@ impl Learned {
             opened: self.opened,
             last: self.last,
             back: self.back,
+            late: self.late,
             help: help_for(self.late),
             initials: self.initials,
             is_http2: self.initials[import::SERVER].is_some() && client.has_preface() && !client.is_other(),
@@ -190,6 +216,7 @@ impl Learned {
                 let cut = self.sides[side].cutter.cut_frame();
                 cut.map(|(stream, times)| (stream, times.into()))
             }),
+            partial: [0, 1].map(|side| self.sides[side].cutter.unfinished().map(|cut| Box::new(Partial::of(&cut)))),
             quickest: self.reactions.quickest,
             acknowledged: self.reactions.acknowledged,
             unanswered: self.reactions.unanswered(),

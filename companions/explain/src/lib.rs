@@ -10,6 +10,7 @@ extern crate cutter;
 
 use reports::Side;
 
+mod across;
 pub mod answer;
 mod audit;
 mod beginning;
@@ -33,6 +34,7 @@ pub mod intervals;
 mod joining;
 mod leaks;
 mod learning;
+mod legs;
 mod life;
 #[cfg(test)]
 mod life_by_nanosecond;
@@ -58,11 +60,13 @@ mod tcp;
 mod telling;
 mod unanswered;
 mod unshown;
+mod waiting;
 mod walk;
+mod window_waits;
 mod windows;
 pub mod words;
 
-pub use building::{answer_of, answer_with_report, Asked};
+pub use building::{answer_of, answer_with_report, ExplainOptions};
 pub use import::{CLIENT, SERVER};
 pub use report_charts::{read_charts, ReportSaid, Reported as ReportedConnection};
 pub use reported::{ReportTo, Reported};

@@ -2,7 +2,7 @@
 //! (docs/WHY.md, 3), as its frames come.
 
 use crate::answer::{Nanos, Share, Shares, Span};
-use crate::course::Course;
+use crate::course::SideCourse;
 use crate::intervals::Interval;
 use crate::marks::Marks;
 
@@ -15,7 +15,7 @@ const TOO_MANY: u16 = MOST_SPANS + 1;
 #[derive(Clone, Copy)]
 pub struct Holding<'a> {
     pub stalls: &'a [Interval],
-    pub course: &'a Course,
+    pub course: &'a SideCourse,
     pub asked: Nanos,
     pub turn: Nanos,
 }
@@ -61,6 +61,7 @@ impl Life {
 
     /// Packets of a frame came that were together, or one packet of a frame: from a time to another; and whether the
     /// frame was begun before, so that TCP and no application held back the rest.
+    #[inline(always)] // it is called for each frame
     pub fn sent(&mut self, holding: &Holding<'_>, first: Nanos, last: Nanos, is_within: bool) {
         let first = first.max(self.at).min(self.until);
         let last = last.max(first).min(self.until);
@@ -72,6 +73,14 @@ impl Life {
         self.has_begun = true;
         self.put(first, last, Share::Sending);
         self.at = last;
+    }
+
+    /// Packets of a frame came, each by itself.
+    #[inline(never)]
+    pub fn sent_apart(&mut self, holding: &Holding<'_>, times: &[Nanos]) {
+        for (at, time) in times.iter().enumerate() {
+            self.sent(holding, *time, *time, at > 0);
+        }
     }
 
     /// Divides the rest up to its end; within a frame, where one was begun whose rest never came.
@@ -89,6 +98,7 @@ impl Life {
     }
 
     /// The stretch before its first frame.
+    #[inline(never)]
     fn wait(&mut self, holding: &Holding<'_>, begin: Nanos, end: Nanos) {
         let mut begin = begin;
         let turn = holding.turn.max(holding.asked);
@@ -107,7 +117,16 @@ impl Life {
     }
 
     /// A stretch between two frames.
+    #[inline(always)]
     fn pause(&mut self, holding: &Holding<'_>, begin: Nanos, end: Nanos, is_within: bool) {
+        match holding.stalls.is_empty() {
+            true => self.between(holding.course, begin, end, is_within),
+            false => self.by_stalls(holding, begin, end, is_within),
+        }
+    }
+
+    #[inline(never)]
+    fn by_stalls(&mut self, holding: &Holding<'_>, begin: Nanos, end: Nanos, is_within: bool) {
         let mut begin = begin;
         let mut stalls = holding.stalls.get(self.stall as usize..).unwrap_or_default().iter().peekable();
         while stalls.next_if(|one| one.1 <= begin).is_some() {
@@ -127,27 +146,32 @@ impl Life {
     }
 
     /// A stretch without frames, and without a stall of the stream.
-    fn between(&mut self, course: &Course, begin: Nanos, end: Nanos, is_within: bool) {
+    #[inline(always)]
+    fn between(&mut self, course: &SideCourse, begin: Nanos, end: Nanos, is_within: bool) {
         if begin >= end {
             return;
         }
         let long = if is_within { Share::Tcp } else { Share::Idle };
-        let in_pause = |from: Nanos, longer: Share| if end - from <= course.pause { Share::Sending } else { longer };
-        let is_one = is_within || end - begin <= course.pause;
-        if (course.is_idle(begin) || is_one && course.is_free()) && end <= course.unseen {
-            self.put(begin, end, in_pause(begin, long));
-        } else {
-            let seen = end.min(begin.max(course.unseen));
-            for (from, to, marks) in course.parts(begin, seen, is_within) {
-                if from < to {
-                    self.by_marks(marks, from, to, is_within);
-                }
-            }
-            self.put(seen, end, in_pause(seen, Share::Unseen));
+        match course.one_share(begin, end, is_within).filter(|_| end <= course.unseen) {
+            Some(Share::Idle) => self.put(begin, end, long),
+            Some(share) => self.put(begin, end, share),
+            None => self.by_parts(course, begin, end, is_within),
         }
         if self.longest_idle.0 >= begin {
             self.is_silent = course.is_silent(self.longest_idle.0, self.longest_idle.1);
         }
+    }
+
+    #[inline(never)]
+    fn by_parts(&mut self, course: &SideCourse, begin: Nanos, end: Nanos, is_within: bool) {
+        let seen = end.min(begin.max(course.unseen));
+        for (from, to, marks) in course.parts(begin, seen, is_within) {
+            if from < to {
+                self.by_marks(marks, from, to, is_within);
+            }
+        }
+        let is_pause = end - seen <= course.pause();
+        self.put(seen, end, if is_pause { Share::Sending } else { Share::Unseen });
     }
 
     /// A stretch of some length by marks: its spans, as far as they are told, and the rest as sums.
@@ -182,10 +206,15 @@ impl Life {
         !self.is_told()
     }
 
+    #[inline(always)] // most of a frame's packets came at one time
     fn put(&mut self, begin: Nanos, end: Nanos, share: Share) {
-        if begin >= end {
-            return;
+        if begin < end {
+            self.put_some(begin, end, share);
         }
+    }
+
+    #[inline]
+    fn put_some(&mut self, begin: Nanos, end: Nanos, share: Share) {
         self.shares[share as usize] += end - begin;
         let (from, to) = self.longest_idle;
         if share == Share::Idle && end - begin > to - from {
@@ -196,6 +225,7 @@ impl Life {
         }
     }
 
+    #[inline]
     fn tell(&mut self, begin: Nanos, end: Nanos, share: Share) {
         if self.count > 0 && self.last == share {
             if let Some(span) = self.spans.as_mut().and_then(|spans| spans.last_mut()) {
@@ -238,7 +268,7 @@ mod tests {
 
     #[test]
     fn what_it_was_doing() {
-        let course = Course::new(vec![(200, 300)], vec![(250, 400)], 20, 900);
+        let course = SideCourse::new(vec![(200, 300)], vec![(250, 400)], 20, 900);
         let holding = Holding { stalls: &[(110, 150), (210, 220)], course: &course, asked: 0, turn: UNENDED };
         let mut one = life(0, 1000);
         one.sent(&holding, 50, 60, false);
@@ -265,7 +295,7 @@ mod tests {
     #[test]
     fn its_turn_comes_after_others() {
         let waits = Waits { own: vec![(50, 60)], asked: Vec::new() };
-        let course = Course::new(vec![], vec![], 20, UNENDED).with_waits(waits);
+        let course = SideCourse::new(vec![], vec![], 20, UNENDED).with_waits(waits);
         for (asked, turn, all) in [
             (10, 40, [(0, 40, "waiting"), (40, 50, "others"), (50, 60, "tcp"), (60, 90, "others")]),
             (30, 20, [(0, 30, "waiting"), (30, 50, "others"), (50, 60, "tcp"), (60, 90, "others")]),
@@ -280,7 +310,7 @@ mod tests {
 
     #[test]
     fn what_never_began_is_not_known_behind_a_gap() {
-        let course = Course::new(vec![], vec![], 20, 60);
+        let course = SideCourse::new(vec![], vec![], 20, 60);
         let holding = Holding { stalls: &[], course: &course, asked: 0, turn: UNENDED };
         let mut one = life(10, 100);
         one.finish(&holding, false);
@@ -293,7 +323,7 @@ mod tests {
 
     #[test]
     fn within_a_frame_a_longer_pause_is_tcp() {
-        let course = Course::new(vec![], vec![], 20, UNENDED);
+        let course = SideCourse::new(vec![], vec![], 20, UNENDED);
         let holding = Holding { stalls: &[], course: &course, asked: 0, turn: UNENDED };
         let mut one = life(0, 300);
         for (time, is_within) in [(0, false), (100, true), (120, true)] {
@@ -306,7 +336,7 @@ mod tests {
 
     #[test]
     fn times_that_go_back_count_as_the_latest_before() {
-        let course = Course::new(vec![], vec![], 20, UNENDED);
+        let course = SideCourse::new(vec![], vec![], 20, UNENDED);
         let holding = Holding { stalls: &[], course: &course, asked: 0, turn: UNENDED };
         let mut one = life(100, 200);
         for (first, last) in [(50, 150), (120, 130), (400, 90)] {
@@ -320,7 +350,7 @@ mod tests {
     #[test]
     fn more_spans_than_are_told() {
         let held = (0..600).map(|at| (at * 100, at * 100 + 50)).collect();
-        let course = Course::new(vec![], held, 20, UNENDED);
+        let course = SideCourse::new(vec![], held, 20, UNENDED);
         let holding = Holding { stalls: &[], course: &course, asked: 0, turn: UNENDED };
         let mut one = life(0, 60_000);
         one.sent(&holding, 0, 0, false);

@@ -3,7 +3,7 @@
 use mutations::Dice;
 
 use crate::answer::{Nanos, Share, Shares};
-use crate::course::{Course, Waits};
+use crate::course::{SideCourse, Waits};
 use crate::intervals::{disjoint, Interval};
 use crate::life::{Holding, Life};
 
@@ -70,7 +70,7 @@ impl Case {
     }
 
     fn divided(&self, has_spans: bool) -> Life {
-        let course = Course::new(self.connection.clone(), self.held.clone(), self.pause, self.unseen);
+        let course = SideCourse::new(self.connection.clone(), self.held.clone(), self.pause, self.unseen);
         let mut course = course.with_waits(self.waits.clone());
         course.sent(&self.packets());
         let holding = Holding { stalls: &self.stalls, course: &course, asked: self.asked, turn: self.turn };

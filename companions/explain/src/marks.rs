@@ -66,16 +66,23 @@ impl Marks {
         }
     }
 
+    #[inline]
     pub fn len(&self) -> usize {
         self.marked.len()
     }
 
+    #[inline]
     pub fn is_empty(&self) -> bool {
         self.marked.is_empty()
     }
 
     pub fn end(&self) -> Nanos {
         self.marked.last().map_or(Nanos::MIN, |last| last.end)
+    }
+
+    #[inline]
+    pub fn last(&self) -> Option<(Nanos, Nanos, Share)> {
+        self.marked.last().map(|one| (one.begin, one.end, one.share))
     }
 
     /// A stretch by its number.

@@ -3,6 +3,7 @@
 use std::borrow::Cow;
 use std::collections::HashMap;
 use std::fmt::Write;
+use std::hash::{BuildHasher, Hash, Hasher};
 use std::rc::Rc;
 
 /// So many letters of a name are kept: a few bytes may stand for a name of thousands, over and over again.
@@ -19,10 +20,23 @@ pub struct Texts {
 pub struct Interner {
     numbers: HashMap<Rc<str>, u32>,
     texts: Texts,
+    /// The last one of each sort, which mostly comes again.
+    latest: [u32; SORTS],
 }
 
+/// Sorts of texts, as methods and paths.
+const SORTS: usize = 3;
+
 impl Interner {
-    pub fn number(&mut self, text: &str) -> u32 {
+    /// The number of a text of some sort.
+    pub fn number_of(&mut self, sort: usize, text: &str) -> u32 {
+        if self.texts.get(self.latest[sort]).map_or(true, |one| &**one != text) {
+            self.latest[sort] = self.number(text);
+        }
+        self.latest[sort]
+    }
+
+    fn number(&mut self, text: &str) -> u32 {
         if let Some(number) = self.numbers.get(text) {
             return *number;
         }
@@ -31,6 +45,13 @@ impl Interner {
         let number = u32::try_from(self.texts.all.len()).unwrap_or(0);
         self.numbers.insert(text, number);
         number
+    }
+
+    /// Of bytes that are never told: the same for the same ones, and not 0.
+    pub fn hash(&self, octets: &[u8]) -> u64 {
+        let mut hasher = self.numbers.hasher().build_hasher();
+        octets.hash(&mut hasher);
+        hasher.finish() | 1
     }
 
     pub fn into_texts(self) -> Texts {
@@ -106,8 +127,9 @@ mod tests {
     #[test]
     fn texts_are_held_once() {
         let mut interner = Interner::default();
-        let numbers: Vec<u32> = ["GET", "/", "GET", ""].into_iter().map(|text| interner.number(text)).collect();
-        assert_eq!(numbers, [1, 2, 1, 3]);
+        let texts = [(0, "GET"), (1, "/"), (0, "GET"), (2, ""), (1, "GET"), (1, "/")];
+        let numbers: Vec<u32> = texts.into_iter().map(|(sort, text)| interner.number_of(sort, text)).collect();
+        assert_eq!(numbers, [1, 2, 1, 3, 1, 2]);
         let texts = interner.into_texts();
         assert_eq!((texts.get(2).map(|text| &**text), texts.get(0), texts.get(4)), (Some("/"), None, None));
     }

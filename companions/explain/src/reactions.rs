@@ -38,12 +38,12 @@ pub enum Reaction {
     Answer,
 }
 
-/// The quickest reactions of a side, the least first, each with the time at which it began; that of each kind; and how
-/// long the first took.
+/// The quickest reactions of a side, the least first, each with the time at which it began; where these are of one kind,
+/// the quickest of another one; and how long the first took.
 #[derive(Clone, Copy, Debug, Default, PartialEq, Eq)]
 pub struct Quickest {
     pub least: [Option<(Nanos, Nanos, Reaction)>; 3],
-    of_kinds: [Option<(Nanos, Nanos, Reaction)>; 5],
+    other: Option<(Nanos, Nanos, Reaction)>,
     pub first: Option<Nanos>,
 }
 
@@ -55,14 +55,27 @@ impl Quickest {
         }
         self.first.get_or_insert(took);
         let mut next = Some((took, began, kind));
-        let of_kind = &mut self.of_kinds[kind as usize];
-        if of_kind.map_or(true, |one| took < one.0) {
-            *of_kind = next;
-        }
         for place in &mut self.least {
             if place.map_or(true, |one| next.map_or(false, |next| next.0 < one.0)) {
                 std::mem::swap(place, &mut next);
             }
+        }
+        if let (Some(next), Some(kind)) = (next, self.one_kind()) {
+            self.left(next, kind);
+        }
+    }
+
+    /// The kind of the three least, where all are of one.
+    fn one_kind(&self) -> Option<Reaction> {
+        let [one, two, three] = self.least.map(|one| one.map(|one| one.2));
+        one.filter(|_| one == two && two == three)
+    }
+
+    /// One is not among the least, which are all of a kind.
+    fn left(&mut self, one: (Nanos, Nanos, Reaction), kind: Reaction) {
+        self.other = self.other.filter(|other| other.2 != kind);
+        if one.2 != kind && self.other.map_or(true, |other| one.0 < other.0) {
+            self.other = Some(one);
         }
     }
 
@@ -76,9 +89,8 @@ impl Quickest {
             [Some(one), Some(two), Some(three)] => [one, two, three],
             _ => return None,
         };
-        if one.2 == two.2 && two.2 == three.2 && one.2 != Reaction::Ping {
-            three =
-                self.of_kinds.iter().flatten().filter(|other| other.2 != one.2).min_by_key(|other| other.0).copied()?;
+        if self.one_kind().map_or(false, |kind| kind != Reaction::Ping) {
+            three = self.other?;
         }
         Some([one, two, three])
     }
@@ -90,7 +102,10 @@ impl Quickest {
 }
 
 /// SETTINGS: frame, time, and initial window.
-type Asked = (u32, Nanos, Option<u32>);
+type SentSettings = (u32, Nanos, Option<u32>);
+
+/// When each PING of a side was sent.
+type Pings = HashMap<(usize, [u8; PING]), Nanos>;
 
 /// What is awaited of a connection's sides.
 #[derive(Debug, Default)]
@@ -98,12 +113,13 @@ pub struct Reactions {
     pub quickest: [Quickest; 2],
     pub acknowledged: [u32; 2],
     /// SETTINGS that wait for an acknowledgement; nothing where none do.
-    settings: [Option<VecDeque<Asked>>; 2],
+    settings: [Option<VecDeque<SentSettings>>; 2],
     /// How many wait behind those.
     more_settings: [u32; 2],
-    pings: HashMap<(usize, [u8; PING]), Nanos>,
+    /// PINGs without an answer; nothing where there never was one.
+    pings: Option<Box<Pings>>,
     /// The connection's windows by the side that sends, and streams that go on.
-    windows: [Window; 2],
+    windows: [WatchedWindow; 2],
     watched: Vec<Watched>,
     streams: u32,
     highest: u32,
@@ -116,13 +132,13 @@ pub struct Reactions {
 struct Watched {
     stream: u32,
     asked: Option<Nanos>,
-    windows: [Window; 2],
+    windows: [WatchedWindow; 2],
     has_ended: [bool; 2],
 }
 
 /// What one side sends within one window.
 #[derive(Debug, Default)]
-struct Window {
+struct WatchedWindow {
     content: i64,
     granted: i64,
     /// What was granted before the first content, which gives nothing back.
@@ -135,7 +151,7 @@ struct Window {
     is_enlarged: bool,
 }
 
-impl Window {
+impl WatchedWindow {
     /// Answers when the last grant was given without which this content could not be sent.
     fn content(&mut self, length: u32, began: Nanos) -> Option<Nanos> {
         if length == 0 {
@@ -184,7 +200,15 @@ impl Reactions {
         frames
     }
 
+    /// Takes a frame of a side. Where no more is looked for, SETTINGS alone count.
+    #[inline]
     pub fn take(&mut self, side: usize, frame: u32, cut: &Cut<'_>) {
+        if !self.is_settled || cut.head.kind == kind::SETTINGS {
+            self.look(side, frame, cut);
+        }
+    }
+
+    fn look(&mut self, side: usize, frame: u32, cut: &Cut<'_>) {
         let (began, time) = match (cut.times.first(), cut.times.last()) {
             (Some(first), Some(last)) => (*first, *last),
             _ => return,
@@ -199,7 +223,7 @@ impl Reactions {
             kind::SETTINGS if head.length % 6 == 0 => {
                 self.asked(side, (frame, time, Values::initial_window_of(cut.payload)));
             }
-            _ if self.is_settled => {}
+            kind::SETTINGS => {}
             _ if self.quickest.iter().all(Quickest::is_settled) => self.settle(),
             kind::PING => self.ping(side, cut, (began, time)),
             kind::DATA => self.content(side, cut, began),
@@ -213,12 +237,12 @@ impl Reactions {
     /// No more is looked for.
     fn settle(&mut self) {
         self.is_settled = true;
-        self.pings = HashMap::new();
+        self.pings = None;
         self.windows = Default::default();
         self.watched = Vec::new();
     }
 
-    fn asked(&mut self, side: usize, settings: Asked) {
+    fn asked(&mut self, side: usize, settings: SentSettings) {
         let waiting = self.settings[side].get_or_insert_with(|| VecDeque::with_capacity(1));
         if self.more_settings[side] == 0 && waiting.len() < MOST_SETTINGS {
             waiting.push_back(settings);
@@ -257,11 +281,14 @@ impl Reactions {
             _ => return,
         };
         if cut.head.has(flag::ACK) {
-            if let Some(asked) = self.pings.remove(&(1 - side, octets)) {
+            if let Some(asked) = self.pings.as_mut().and_then(|pings| pings.remove(&(1 - side, octets))) {
                 self.quickest[side].add(Reaction::Ping, asked, began);
             }
-        } else if self.pings.len() < MOST_PINGS || self.pings.contains_key(&(side, octets)) {
-            self.pings.insert((side, octets), time);
+            return;
+        }
+        let pings = self.pings.get_or_insert_with(Box::default);
+        if pings.len() < MOST_PINGS || pings.contains_key(&(side, octets)) {
+            pings.insert((side, octets), time);
         }
     }
 
@@ -341,47 +368,4 @@ impl Reactions {
 }
 
 #[cfg(test)]
-mod tests {
-    use super::*;
-
-    #[test]
-    fn what_credit_forces() {
-        let mut window = Window::default();
-        assert_eq!(window.grant(10, 100, 1), None, "before the first content");
-        assert_eq!(window.content(60, 2), None);
-        assert_eq!(window.content(41, 3), Some(1), "past the 100 that were allowed before");
-        assert_eq!(window.grant(59, 100, 4), None, "less than the first frame");
-        assert_eq!(window.grant(2, 100, 5), Some(2));
-        assert_eq!(window.content(9, 6), None, "it was allowed before");
-        assert_eq!(window.content(100, 7), Some(5), "the last grant without which it could not be sent");
-        assert_eq!(window.grant(1000, 100, 8), None, "that gives nothing back");
-        assert_eq!(window.grant(1, 100, 9), None);
-    }
-
-    #[test]
-    fn settings_that_wait() {
-        let waiting = |reactions: &Reactions| reactions.settings[0].as_ref().map_or(0, VecDeque::len);
-        let mut reactions = Reactions::default();
-        (0..5000).for_each(|frame| reactions.asked(0, (frame, 0, Some(1))));
-        assert_eq!((waiting(&reactions), reactions.more_settings[0]), (MOST_SETTINGS, 904));
-        assert_eq!(reactions.unanswered(), (0..8).collect::<Vec<u32>>());
-        (0..MOST_SETTINGS).for_each(|_| reactions.acknowledge(1, 7));
-        assert_eq!(reactions.initials[1], 1 - FIRST_CREDIT);
-        reactions.asked(0, (5000, 0, Some(1)));
-        assert_eq!((waiting(&reactions), reactions.more_settings[0]), (0, 905), "behind all that wait");
-        (0..1000).for_each(|_| reactions.acknowledge(1, 1));
-        assert_eq!((reactions.acknowledged[0], reactions.quickest[1].nanos()), (5001, Some(7)), "as those kept took");
-        assert_eq!(reactions.initials[1], i64::from(u32::MAX) - FIRST_CREDIT);
-    }
-
-    #[test]
-    fn the_three_quickest() {
-        let mut quickest = Quickest::default();
-        for (began, came) in [(0, 90), (5, 3), (10, 60), (20, 100), (30, 37)] {
-            quickest.add(Reaction::Ping, began, came);
-        }
-        let least = quickest.least.map(|one| one.map(|one| (one.0, one.1)));
-        assert_eq!(least, [Some((7, 30)), Some((50, 10)), Some((80, 20))]);
-        assert_eq!((quickest.first, quickest.nanos()), (Some(90), Some(7)));
-    }
-}
+mod tests;

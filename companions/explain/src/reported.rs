@@ -10,12 +10,13 @@ use originals::{bring_back, no_report, Original};
 use programs::{printable, temporary_failure, Audit as Running, Failure, Output, H2AUDIT};
 use reports::ReadError;
 
-use crate::audit::{of_h2audit, read_audits, Audit};
+use crate::answer::{Answer, Certainty, ConnectionSaid};
+use crate::audit::{of_h2audit, read_audits, Audits};
 
 /// So much is read of what h2audit said.
 const MOST_SAID: u64 = 1 << 16;
 
-/// What the report of the original shows, as the status of h2audit-any says it.
+/// What the report of the original shows, and what is said of connections that are not in it, as a status says it.
 #[derive(Clone, Debug, Default, PartialEq, Eq)]
 pub struct Reported {
     pub has_faults: bool,
@@ -33,7 +34,7 @@ pub struct ReportTo<'a> {
 }
 
 /// The connections of a report that is there, which may be of some parts alone.
-pub fn read_report(path: &Path) -> Result<Vec<Audit>, Failure> {
+pub fn read_report(path: &Path) -> Result<Audits, Failure> {
     let file = File::open(path).map_err(|error| Failure::of_file(path, &error))?;
     read_audits(BufReader::new(file), |error| match error {
         ReadError::Io(error) => Failure::from_io("report", &error),
@@ -42,12 +43,7 @@ pub fn read_report(path: &Path) -> Result<Vec<Audit>, Failure> {
 }
 
 /// The connections of the report of what was made. It goes into a file too where that is wanted.
-pub fn audited(
-    program: &OsStr,
-    options: &[String],
-    path: &Path,
-    copy: Option<&mut File>,
-) -> Result<Vec<Audit>, Failure> {
+pub fn audited(program: &OsStr, options: &[String], path: &Path, copy: Option<&mut File>) -> Result<Audits, Failure> {
     let mut said = tempfile::tempfile().map_err(|error| temporary_failure(&error))?;
     let errors = said.try_clone().map_err(|error| temporary_failure(&error))?;
     let mut command = Command::new(program);
@@ -91,8 +87,14 @@ fn copied(report: &mut impl io::Read, file: &mut File) -> Result<(), Failure> {
     done.map_err(|error| temporary_failure(&error))
 }
 
-/// Writes the report of the original.
-pub fn of_original(mut report: File, original: &mut Original, to: ReportTo<'_>) -> Result<Reported, Failure> {
+/// Writes the report of the original. Connections of which something is inferred are not in it: of them the answer
+/// counts.
+pub fn of_original(
+    mut report: File,
+    original: &mut Original,
+    answer: &Answer,
+    to: ReportTo<'_>,
+) -> Result<Reported, Failure> {
     report.rewind().map_err(|error| temporary_failure(&error))?;
     let (report, ReportTo { rows, text }) = (BufReader::new(report), to);
     let written = match text {
@@ -103,9 +105,11 @@ pub fn of_original(mut report: File, original: &mut Original, to: ReportTo<'_>) 
     if !shown.is_there {
         return Err(no_report());
     }
-    let is_nothing_read = !shown.has_faults && original.read() == 0;
+    let mut inferred = answer.audited().filter(|one| one.is_inferred()).peekable();
+    let is_nothing_read = !shown.has_faults && original.read() == 0 && inferred.peek().is_none();
+    let has_fault = |one: &ConnectionSaid| one.faults.iter().any(|fault| fault.certainty != Certainty::Joined);
     Ok(Reported {
-        has_faults: shown.has_faults,
+        has_faults: shown.has_faults || inferred.any(has_fault),
         is_nothing_read,
         back: original.back.take(),
         words: original.passed_over_words(is_nothing_read),

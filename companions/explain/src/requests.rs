@@ -1,15 +1,17 @@
 //! The requests of a connection. They are held packed, and told one by one: ends, shares and causes rest on what is
 //! known of the connection.
 
+use std::cell::RefCell;
 use std::rc::Rc;
 
-use crate::answer::{Direction, Ended, How, Nanos, Request, Share, Shares};
-use crate::causes::{no_cause, Held};
+use crate::answer::{Cause, Direction, Ended, How, Nanos, Request, Share, Shares};
+use crate::causes::{no_cause, Held, LEAST_HELD};
+use crate::legs::{Brief, LegKnown, Lived, Sent};
 use crate::names::{name_of, Texts};
-use crate::packed::{pack, unpack};
+use crate::packed::{pack, unpack, unpack_lives, unpack_outline};
 use crate::seen::Seen;
 use crate::side_of;
-use crate::stream::{self, Asked, Stream};
+use crate::stream::{self, RequestFields, Stream};
 
 /// The requests of a connection, in the order of their openings.
 #[derive(Clone, Debug, Default)]
@@ -18,11 +20,43 @@ pub struct Requests {
     all: Vec<Request>,
     packed: Option<Rc<(Packed, Seen)>>,
     texts: Option<Rc<Texts>>,
+    /// How many are told, where it is not all.
+    most: Option<usize>,
+}
+
+/// Room for a request that is told, one after the other.
+pub struct Room(Stream);
+
+impl Default for Room {
+    fn default() -> Room {
+        Room(Stream::empty())
+    }
+}
+
+/// What is told of a request that is packed: all of it, or not its names and spans.
+#[derive(Clone, Copy, PartialEq, Eq)]
+enum Wanted {
+    All,
+    Sums,
 }
 
 impl Requests {
     pub fn of(packed: Rc<(Packed, Seen)>) -> Requests {
-        Requests { all: Vec::new(), packed: Some(packed), texts: None }
+        Requests { all: Vec::new(), packed: Some(packed), texts: None, most: None }
+    }
+
+    /// Those are left out that were opened from this packet on.
+    pub fn end_before(&mut self, packet: u64) {
+        let is_before = |index: usize| self.get(index).map_or(false, |request| request.opened.packet < packet);
+        let (mut least, mut most) = (0, self.len());
+        while least < most {
+            let middle = (least + most) / 2;
+            match is_before(middle) {
+                true => least = middle + 1,
+                false => most = middle,
+            }
+        }
+        self.most = Some(least);
     }
 
     /// All texts are known.
@@ -30,12 +64,40 @@ impl Requests {
         self.texts = Some(texts.clone());
     }
 
+    /// The stream of a request.
+    pub fn stream_of(&self, index: usize) -> Option<u32> {
+        let mut room = Stream::empty();
+        let packed = self.outline(index, &mut room).map(|_| room.number);
+        packed.or_else(|| self.all.get(index).map(|one| one.stream))
+    }
+
+    /// All texts, by whose numbers streams name requests.
+    pub fn texts(&self) -> Option<&Texts> {
+        self.texts.as_deref()
+    }
+
+    /// Reads the outline of a request's stream into some room, and answers what is known of its connection.
+    pub fn outline(&self, index: usize, room: &mut Stream) -> Option<&Seen> {
+        let packed = self.packed.as_ref()?;
+        unpack_outline(packed.0.bytes_of(index)?, room);
+        Some(&packed.1)
+    }
+
+    /// Takes what hops are sought by of those that a client opened while the capture ran, where it was kept.
+    pub fn take_briefs(&self) -> impl Iterator<Item = Brief> + '_ {
+        self.packed.iter().flat_map(move |packed| {
+            let is_known = move |one: &Brief| one.stream != 0 && !packed.1.about.was_open(one.stream);
+            packed.0.take_briefs().into_iter().take(self.len()).filter(is_known)
+        })
+    }
+
     pub fn push(&mut self, request: Request) {
         self.all.push(request);
     }
 
     pub fn len(&self) -> usize {
-        self.all.len() + self.packed.as_ref().map_or(0, |packed| packed.0.places.len())
+        let all = self.all.len() + self.packed.as_ref().map_or(0, |packed| packed.0.places.len());
+        self.most.map_or(all, |most| most.min(all))
     }
 
     pub fn is_empty(&self) -> bool {
@@ -43,28 +105,59 @@ impl Requests {
     }
 
     pub fn get(&self, index: usize) -> Option<Request> {
+        self.read(index, Wanted::All, &mut Stream::empty())
+    }
+
+    /// One that is packed is read into some room.
+    fn read(&self, index: usize, wanted: Wanted, room: &mut Stream) -> Option<Request> {
         match &self.packed {
-            Some(_) => self.told(index, self.texts.as_deref(), &mut Stream::empty()),
+            Some(_) => self.told(index, wanted, room),
             None => self.all.get(index).cloned(),
         }
     }
 
     /// It is told from a stream that is read into some room.
-    fn told(&self, index: usize, texts: Option<&Texts>, room: &mut Stream) -> Option<Request> {
+    fn told(&self, index: usize, wanted: Wanted, room: &mut Stream) -> Option<Request> {
         let packed = self.packed.as_ref()?;
-        packed.0.read(index, room).then(|| told(room, &packed.1, texts))
+        let texts = self.texts.as_deref().filter(|_| wanted == Wanted::All);
+        packed.0.read(index, wanted != Wanted::Sums, room).then(|| told(room, &packed.1, texts))
+    }
+
+    /// What is told of a packed request as one leg of a proxy's two, of which that much is known: it is read into some
+    /// room.
+    pub fn leg<'a>(&self, index: usize, known: &LegKnown, room: &'a mut Stream) -> Option<Lived<'a>> {
+        let (packed, seen) = &**self.packed.as_ref()?;
+        let bytes = packed.bytes_of(index)?;
+        unpack_lives(bytes, known.opened, true, room);
+        let is_divided = |side: usize| {
+            let life = &room.sides[side].life;
+            life.at == life.until && life.until == known.ends[side]
+        };
+        if may_be_of_leg(room, known, seen) || !is_divided(0) || !is_divided(1) {
+            unpack(bytes, packed.round_trip, true, room);
+            let cause = told(&mut room.clone(), seen, None).cause;
+            for (side, end) in known.ends.into_iter().enumerate() {
+                room.sides[side].finish(&seen.about.holding(side, room.number), end, false);
+            }
+            return Some(lived(room, known, cause));
+        }
+        Some(lived(room, known, no_cause()))
     }
 
     /// Each one by itself, in the order of openings.
     pub fn iter(&self) -> impl Iterator<Item = Request> + '_ {
-        (0..self.len()).filter_map(|index| self.get(index))
+        self.at(0..self.len()).map(|one| one.1)
     }
 
-    /// The same without names where they are packed.
-    pub fn unnamed(&self) -> impl Iterator<Item = Request> + '_ {
+    /// Those of these places.
+    pub fn at<'a>(&'a self, places: impl Iterator<Item = usize> + 'a) -> impl Iterator<Item = (usize, Request)> + 'a {
         let mut room = Stream::empty();
-        (0..self.len())
-            .filter_map(move |index| self.told(index, None, &mut room).or_else(|| self.all.get(index).cloned()))
+        places.filter_map(move |index| Some((index, self.read(index, Wanted::All, &mut room)?)))
+    }
+
+    /// All without names and spans where they are packed: each is read into some room.
+    pub fn unnamed<'a>(&'a self, room: &'a mut Room) -> impl Iterator<Item = Request> + 'a {
+        (0..self.len()).filter_map(move |index| self.read(index, Wanted::Sums, &mut room.0))
     }
 }
 
@@ -77,7 +170,8 @@ pub struct Packed {
     /// Bytes that hold nothing any more.
     idle: usize,
     round_trip: Nanos,
-    room: Vec<u8>,
+    /// Of each what hops are sought by, where it is wanted.
+    briefs: Option<RefCell<Vec<Brief>>>,
 }
 
 /// So many bytes most streams take.
@@ -90,28 +184,48 @@ impl Packed {
         Packed { round_trip, ..Packed::default() }
     }
 
-    /// Puts a stream in its place among those that were opened.
+    /// What hops are sought by is kept of all.
+    pub fn keep_briefs(&mut self) {
+        self.briefs = Some(RefCell::default());
+    }
+
+    fn take_briefs(&self) -> Vec<Brief> {
+        self.briefs.as_ref().map(RefCell::take).unwrap_or_default()
+    }
+
+    fn put_brief(&mut self, stream: &Stream) {
+        if let Some(briefs) = &mut self.briefs {
+            let (briefs, index) = (briefs.get_mut(), stream.order as usize);
+            let brief = Brief::of(stream).unwrap_or_default();
+            if briefs.len() == index {
+                return briefs.push(brief);
+            }
+            briefs.resize(briefs.len().max(index + 1), Brief::default());
+            briefs[index] = brief;
+        }
+    }
+
+    /// Puts a stream in its place among those that were opened: behind all others, or where it stood before if it fits in
+    /// there.
     pub fn put(&mut self, stream: &Stream) {
-        let mut room = std::mem::take(&mut self.room);
-        room.clear();
-        room.reserve(USUAL);
-        pack(stream, &mut room);
+        self.put_brief(stream);
+        let behind = self.bytes.len();
+        self.bytes.reserve(USUAL);
+        pack(stream, &mut self.bytes);
+        let length = (self.bytes.len() - behind) as u32;
         let index = stream.order as usize;
         if self.places.len() <= index {
             self.places.resize(index + 1, NOWHERE);
         }
-        let (begin, length) = self.places[index];
-        let place = self.bytes.get_mut(begin as usize..).and_then(|rest| rest.get_mut(..room.len()));
-        match place.filter(|_| room.len() <= length as usize) {
-            Some(place) => place.copy_from_slice(&room),
-            None => {
-                self.idle += length as usize;
-                self.places[index] = (self.bytes.len() as u64, room.len() as u32);
-                self.bytes.extend_from_slice(&room);
-                self.tidy();
-            }
+        let (before, most) = self.places[index];
+        if length <= most {
+            self.bytes.copy_within(behind.., before as usize);
+            self.bytes.truncate(behind);
+        } else {
+            self.idle += most as usize;
+            self.places[index] = (behind as u64, length);
+            self.tidy();
         }
-        self.room = room;
     }
 
     /// Lets go of what is idle, where that is most.
@@ -131,21 +245,25 @@ impl Packed {
     /// The stream that was opened behind so many others, if it is packed.
     pub fn get(&self, index: usize) -> Option<Stream> {
         let mut stream = Stream::empty();
-        self.read(index, &mut stream).then_some(stream)
+        self.read(index, true, &mut stream).then_some(stream)
     }
 
     /// Reads it into the place of another one, if it is packed.
-    fn read(&self, index: usize, stream: &mut Stream) -> bool {
-        let place = self.places.get(index).filter(|place| **place != NOWHERE);
-        let bytes = place.and_then(|(begin, length)| self.bytes.get(*begin as usize..)?.get(..*length as usize));
-        bytes.map(|bytes| unpack(bytes, self.round_trip, stream)).is_some()
+    fn read(&self, index: usize, has_spans: bool, stream: &mut Stream) -> bool {
+        let bytes = self.bytes_of(index);
+        bytes.map(|bytes| unpack(bytes, self.round_trip, has_spans, stream)).is_some()
+    }
+
+    fn bytes_of(&self, index: usize) -> Option<&[u8]> {
+        let (begin, length) = *self.places.get(index).filter(|place| **place != NOWHERE)?;
+        self.bytes.get(begin as usize..)?.get(..length as usize)
     }
 
     /// No more come.
     pub fn end(&mut self) {
         self.bytes.shrink_to_fit();
         self.places.shrink_to_fit();
-        self.room = Vec::new();
+        self.briefs.iter_mut().for_each(|briefs| briefs.get_mut().shrink_to_fit());
     }
 }
 
@@ -194,6 +312,24 @@ fn told(stream: &mut Stream, seen: &Seen, texts: Option<&Texts>) -> Request {
     request
 }
 
+fn lived<'a>(stream: &'a Stream, known: &LegKnown, cause: Cause) -> Lived<'a> {
+    let LegKnown { opened, ends, has_content } = *known;
+    let sent = |side: usize| {
+        let spans = stream.sides[side].life.spans.as_deref();
+        Sent { nanos: ends[side] - opened, spans, has_content: has_content[side] }
+    };
+    Lived { opened, until: ends[0].max(ends[1]), sides: [sent(0), sent(1)], cause }
+}
+
+/// Whether the cause may be one that tells who held back a leg: a window that does not show, or TCP.
+fn may_be_of_leg(stream: &Stream, known: &LegKnown, seen: &Seen) -> bool {
+    (0..2).any(|side| {
+        let one = &stream.sides[side];
+        let is_paused = known.has_content[side] && (one.unshown_nanos > 0 || seen.unshown[side].is_some());
+        is_paused || one.life.shares[Share::Tcp as usize] >= LEAST_HELD
+    })
+}
+
 /// Whether a direction of a stream that was open when the capture began was not seen, as where it had ended before.
 fn is_unseen(stream: &Stream, side: usize) -> bool {
     let [one, other] = [&stream.sides[side], &stream.sides[1 - side]];
@@ -206,7 +342,7 @@ fn unseen(found: Direction) -> Direction {
     Direction { nanos: 0, shares: Shares::default(), spans, end: None, waited: 0, ..found }
 }
 
-fn names(asked: Option<Asked>, texts: Option<&Texts>) -> [Option<Rc<str>>; 3] {
+fn names(asked: Option<RequestFields>, texts: Option<&Texts>) -> [Option<Rc<str>>; 3] {
     let asked = asked.unwrap_or_default();
     [asked.method, asked.path, asked.authority].map(|number| texts?.get(number).cloned())
 }
@@ -223,7 +359,7 @@ fn direction(stream: &mut Stream, side: usize, seen: &Seen, ended: &Ended) -> Di
         content: one.content,
         first: one.first,
         end: ended.at,
-        stalls: seen.about.stalls.get(&(side, number)).map_or(0, |one| one.0),
+        stalls: seen.about.stalls.get(side, number).map_or(0, |one| one.0),
         waited: waited(one, side, seen, end),
     }
 }

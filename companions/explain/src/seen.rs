@@ -8,7 +8,7 @@ use joined::Inferred;
 
 use crate::answer::{is_pushed, At, Ended, How, Nanos, Place, RoundTrip, StallSaid, StallWhy};
 use crate::beginning::key_of_stream;
-use crate::course::Course;
+use crate::course::SideCourse;
 use crate::intervals::{disjoint, Interval, Stretches};
 use crate::life::Holding;
 use crate::rounds::NEAR;
@@ -20,6 +20,26 @@ use crate::tcp::Tcp;
 /// By a side and a stream, of which 0 is the connection.
 pub type Key = (usize, u32);
 
+/// What is known of some windows, in their order; mostly there are none.
+#[derive(Debug)]
+pub struct OfWindows<T>(Box<[(Key, T)]>);
+
+impl<T> OfWindows<T> {
+    #[inline]
+    pub fn get(&self, side: usize, stream: u32) -> Option<&T> {
+        let at = self.0.binary_search_by_key(&(side, stream), |one| one.0).ok()?;
+        self.0.get(at).map(|one| &one.1)
+    }
+}
+
+impl<T> FromIterator<(Key, T)> for OfWindows<T> {
+    fn from_iter<All: IntoIterator<Item = (Key, T)>>(all: All) -> OfWindows<T> {
+        let mut found: Vec<(Key, T)> = all.into_iter().collect();
+        found.sort_unstable_by_key(|one| one.0);
+        OfWindows(found.into())
+    }
+}
+
 /// What is known before the second walk.
 #[derive(Debug)]
 pub struct About {
@@ -30,9 +50,11 @@ pub struct About {
     /// The time from which something of it was not seen, or not judged; and from which bytes are missing.
     pub unseen: Nanos,
     pub lost: Nanos,
-    pub courses: [Course; 2],
+    pub courses: [SideCourse; 2],
+    /// A side that sends nothing for longer than this rests: an eighth of a round trip.
+    pub rest: Nanos,
     /// How many stalls each stream's window has, and when they were.
-    pub stalls: HashMap<Key, (u32, Vec<Interval>)>,
+    pub stalls: OfWindows<(u32, Vec<Interval>)>,
     /// What is inferred of one that began before the capture.
     pub inferred: Option<Rc<Inferred>>,
 }
@@ -49,24 +71,21 @@ impl About {
     }
 
     /// What holds back a direction.
+    #[inline]
     pub fn holding(&self, side: usize, stream: u32) -> Holding<'_> {
-        let stalls = if self.stalls.is_empty() { None } else { self.stalls.get(&(side, stream)) };
-        let stalls = stalls.map_or(&[][..], |one| &one.1);
+        let stalls = self.stalls.get(side, stream).map_or(&[][..], |one| &one.1);
         Holding { stalls, course: &self.courses[side], asked: self.opened.time, turn: Nanos::MAX }
     }
 
     /// The stalls of each window, as far as they were seen.
-    pub fn stalls_of(audit: &[crate::audit::Stalled], unseen: Nanos) -> HashMap<Key, (u32, Vec<Interval>)> {
+    pub fn stalls_of(audit: &[crate::audit::Stalled], unseen: Nanos) -> OfWindows<(u32, Vec<Interval>)> {
         let mut found: HashMap<Key, (u32, Vec<Interval>)> = HashMap::new();
         for one in audit {
             let window = found.entry((one.side, one.stream)).or_default();
             window.0 += 1;
             window.1.push((one.begin.time, one.end.map_or(Nanos::MAX, |end| end.time).min(unseen)));
         }
-        for window in found.values_mut() {
-            window.1 = disjoint(std::mem::take(&mut window.1));
-        }
-        found
+        found.into_iter().map(|(key, (count, stalls))| (key, (count, disjoint(stalls)))).collect()
     }
 }
 
@@ -89,8 +108,8 @@ pub struct WindowStalls {
 /// All that requests are told from.
 #[derive(Debug)]
 pub struct Seen {
-    pub about: About,
-    pub windows: HashMap<Key, WindowStalls>,
+    pub about: Box<About>,
+    pub windows: OfWindows<WindowStalls>,
     /// Of each side the GOAWAY with the lowest last stream; and the first one with an error.
     pub refusing: [Option<Refusal>; 2],
     pub error: Option<Ended>,
@@ -103,7 +122,7 @@ pub struct Seen {
     /// By the side that sends: when its initial window changed.
     pub changes: [Changes; 2],
     /// When something may have waited for a window, of which that is not known.
-    pub doubtful: HashMap<Key, Interval>,
+    pub doubtful: OfWindows<Interval>,
 }
 
 /// Reasons in the order of their names, of which the first counts where several took as long.
@@ -118,7 +137,7 @@ const REASONS: [StallWhy; 6] = [
 
 impl WindowStalls {
     /// Of all stalls of a connection, by window.
-    pub fn by_window(stalls: &[StallSaid]) -> HashMap<Key, WindowStalls> {
+    pub fn by_window(stalls: &[StallSaid]) -> OfWindows<WindowStalls> {
         let mut found: HashMap<Key, Vec<StallSaid>> = HashMap::new();
         for one in stalls {
             found.entry((one.side as usize, one.stream)).or_default().push(*one);
@@ -163,7 +182,7 @@ impl Seen {
             None => return false,
         };
         let keys = [(side, 0), key_of_stream(inferred, side, stream)];
-        keys.iter().filter_map(|key| self.doubtful.get(key)).any(|one| one.0 < end && one.1 > begin)
+        keys.iter().filter_map(|key| self.doubtful.get(key.0, key.1)).any(|one| one.0 < end && one.1 > begin)
     }
 
     /// Which SETTINGS made the initial window of a side what it was at a frame.

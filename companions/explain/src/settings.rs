@@ -1,39 +1,18 @@
 //! The settings that the sides of a connection announce, and when they are acknowledged (RFC 9113, 6.5).
 
-use std::collections::VecDeque;
-
 use crate::answer::{At, SettingSaid};
 use crate::side_of;
+use crate::waiting::Queue;
+use crate::windows::FIRST_CREDIT;
 
 /// The identifiers of SETTINGS on which a window or a fault may hang, and their initial values (6.5.2).
-pub const KINDS: [(u16, u32); 3] = [(2, 1), (4, 65_535), (5, 16_384)];
+pub const KINDS: [(u16, u32); 3] = [(2, 1), (4, FIRST_CREDIT as u32), (5, 16_384)];
 pub const ENABLE_PUSH: usize = 0;
 pub const INITIAL_WINDOW: usize = 1;
 pub const MAX_FRAME_SIZE: usize = 2;
 const HEADER_TABLE_SIZE: u16 = 1;
 /// Of a connection with more SETTINGS, those of the first ones are told.
 const MOST_TOLD: u32 = 1000;
-/// The last SETTINGS without an acknowledgement, which are looked at.
-const MOST_PENDING: usize = 64;
-
-/// SETTINGS that say one of [`KINDS`], and wait for their acknowledgement.
-#[derive(Clone, Copy, Debug)]
-struct Waiting {
-    /// How many SETTINGS that say none of them wait between these and the ones before.
-    others: u32,
-    at: At,
-    values: [Option<u32>; 3],
-    /// Where their initial window is told, if it is.
-    told: Option<u32>,
-}
-
-/// Those of a side that wait, the oldest first.
-#[derive(Debug, Default)]
-struct Queue {
-    waiting: VecDeque<Waiting>,
-    /// How many wait behind the last one that says one of the kinds.
-    others: u32,
-}
 
 /// What the SETTINGS of a connection said so far. Nothing is kept of SETTINGS that no longer wait, but what is told.
 #[derive(Debug, Default)]
@@ -95,23 +74,6 @@ pub struct AtFault {
     pub pending: Vec<u32>,
 }
 
-impl Queue {
-    /// The oldest of those that wait is acknowledged. Answers it, if it says one of the kinds.
-    fn acknowledged(&mut self) -> Option<Waiting> {
-        let others = self.waiting.front_mut().map_or(&mut self.others, |first| &mut first.others);
-        match others.checked_sub(1) {
-            Some(rest) => *others = rest,
-            None => return self.waiting.pop_front(),
-        }
-        None
-    }
-
-    /// The last ones that wait, the newest first.
-    fn last(&self) -> impl Iterator<Item = &Waiting> + Clone {
-        self.waiting.iter().rev().take(MOST_PENDING)
-    }
-}
-
 impl Settings {
     /// A side sent SETTINGS.
     pub fn sent(&mut self, side: usize, at: At, values: [Option<u32>; 3]) {
@@ -120,15 +82,14 @@ impl Settings {
         self.count = self.count.saturating_add(1);
         let queue = &mut self.queues[side];
         if values.iter().all(Option::is_none) {
-            queue.others += 1;
+            queue.push_other();
             return;
         }
         let told = values[INITIAL_WINDOW].filter(|_| is_told).map(|value| {
             self.told.push(SettingSaid { side: side_of(side), value, at, acknowledged: None });
             self.told.len() as u32 - 1
         });
-        let others = std::mem::take(&mut queue.others);
-        queue.waiting.push_back(Waiting { others, at, values, told });
+        queue.push(at, values, told);
     }
 
     /// A side acknowledges the oldest SETTINGS of the other that wait. Answers the initial window that counts from here.
@@ -165,7 +126,9 @@ impl Settings {
     }
 
     /// The initial windows that are told, and when they changed what each side obeys.
-    pub fn said(self) -> (Vec<SettingSaid>, [Changes; 2]) {
+    pub fn said(mut self) -> (Vec<SettingSaid>, [Changes; 2]) {
+        self.told.shrink_to_fit();
+        self.in_force.iter_mut().for_each(|now| now.changes.shrink_to_fit());
         (self.told, self.in_force.map(|now| now.changes))
     }
 }
@@ -210,7 +173,7 @@ mod tests {
             settings.acknowledged(0, at(number));
         }
         settings.sent(1, at(9000), window(7));
-        assert_eq!(settings.queues[1].waiting.len(), 1);
+        assert_eq!(settings.queues[1].last().count(), 1);
         assert_eq!(settings.initial_window(0).map(|one| one.0), Some(2 * MOST_TOLD));
         let (said, [changes, _]) = settings.said();
         assert_eq!((said.len() as u32, changes.len() as u32), (MOST_TOLD, MOST_TOLD + 1));

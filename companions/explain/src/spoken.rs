@@ -1,6 +1,6 @@
 //! What a side says that is no HTTP/2, by the first bytes that it sent, and why a connection has none (docs/WHY.md, 8).
 
-use import::{Course, CLIENT, SERVER};
+use import::{TcpCourse, CLIENT, SERVER};
 
 use crate::answer::Outcome;
 use crate::words::protocol;
@@ -97,7 +97,7 @@ fn other_of(line: &[u8], bytes: &[u8]) -> Option<&'static str> {
 }
 
 /// Why h2audit did not audit a connection, where the capture shows it: more than the report's word.
-pub fn reason_of(outcome: Outcome, course: &Course, spoken: [Spoken; 2]) -> Option<&'static str> {
+pub fn reason_of(outcome: Outcome, course: &TcpCourse, spoken: [Spoken; 2]) -> Option<&'static str> {
     let [client, server] = [CLIENT, SERVER].map(|side| &course.sides[side]);
     match outcome {
         Outcome::NoHandshake if server.rst.is_some() && client.segments + server.segments == 0 => Some("refused-port"),

@@ -39,6 +39,7 @@ pub fn stall_said(one: &Stalled, tcp: &Tcp, unseen: Nanos, round_trip: &RoundTri
         why: StallWhy::GrantedNothing,
         late: 0,
         sure: None,
+        credits: (one.begin.credit, one.end.map(|end| end.credit)),
     };
     match one.end {
         None => {
@@ -88,13 +89,13 @@ mod tests {
     use super::*;
     use crate::tcp::at_of;
     use captures::Arrival;
-    use import::{Course, Held, Why};
+    use import::{Held, TcpCourse, Why};
 
     const MS: Nanos = 1_000_000;
 
     fn tcp(held: Vec<Held>) -> Tcp {
         let last = Arrival { packet: 9, nanos: 900 * MS };
-        let mut course = Course {
+        let mut course = TcpCourse {
             syn: last,
             syn_ack: None,
             ack: None,

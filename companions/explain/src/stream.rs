@@ -1,10 +1,14 @@
 //! What is known of a stream as its frames come: its request, and what each side sends on it.
 
+mod beside;
+
 use crate::answer::{At, Nanos};
-use crate::course::Course;
+use crate::course::SideCourse;
 use crate::life::{Holding, Life};
 use crate::unshown::Unshown;
-use crate::windows::Window;
+use crate::windows::CountedWindow;
+
+pub use beside::{Beside, Total};
 
 /// A stream that was opened; a pushed one by a promise on another.
 #[derive(Clone, Debug, PartialEq, Eq)]
@@ -15,24 +19,26 @@ pub struct Stream {
     pub promised_on: u32,
     pub opened: At,
     pub sides: [Direction; 2],
-    pub request: Option<Asked>,
-    pub answer: Answer,
+    pub request: Option<RequestFields>,
+    pub answer: ResponseFields,
     pub reset: Option<Reset>,
 }
 
 /// What the request's field block says, by numbers of texts.
 #[derive(Clone, Copy, Debug, Default, PartialEq, Eq)]
-pub struct Asked {
+pub struct RequestFields {
     /// Whether it has none of the fields that are wanted.
     pub is_empty: bool,
     pub method: u32,
     pub path: u32,
     pub authority: u32,
+    /// Hashes of the values that tell it from others wherever it goes, by [`hpack::Name::IDS`]; 0 is none.
+    pub ids: [u64; 2],
 }
 
 /// What the server's field blocks say.
 #[derive(Clone, Copy, Debug, Default, PartialEq, Eq)]
-pub struct Answer {
+pub struct ResponseFields {
     pub fields: Option<Answered>,
     /// By the trailers.
     pub grpc_status: Option<u32>,
@@ -58,6 +64,8 @@ pub struct Reset {
 pub struct Direction {
     pub life: Life,
     pub content: u64,
+    /// What of that is padding.
+    pub padding: u64,
     /// The first and the last of its frames.
     pub first: Option<At>,
     pub last: Option<At>,
@@ -73,7 +81,7 @@ pub struct Direction {
     /// Whether this side sent nothing at all between the two.
     pub was_silent: bool,
     pub beside: Beside,
-    pub window: Window,
+    pub window: CountedWindow,
     /// All that the other side granted.
     pub granted: u64,
     /// Where stalls of it may not show.
@@ -81,64 +89,6 @@ pub struct Direction {
     /// How long such stalls took within its life.
     pub unshown_nanos: Nanos,
     pub kept: Option<Box<Kept>>,
-}
-
-/// What its side sent on the connection from its first frame to its last content, and on how many streams; and what was
-/// sent, and how many had ended, before that.
-#[derive(Clone, Copy, Debug, Default, PartialEq, Eq)]
-pub struct Beside {
-    pub content: u64,
-    pub before: u64,
-    /// How long it sent that without a pause that counts where stalls do not show, and before.
-    pub active: Nanos,
-    pub active_before: Nanos,
-    pub streams: u32,
-    pub ended: u32,
-}
-
-/// What a side sent on all streams: content, how long without a pause, and when last; streams that had content, and those
-/// of them that have ended.
-#[derive(Clone, Copy, Debug, Default)]
-pub struct Total {
-    pub content: u64,
-    pub active: Nanos,
-    pub last: Option<Nanos>,
-    pub begun: u32,
-    pub ended: u32,
-    /// The stream that was opened last of those that have begun; and the last packet with content of one that had begun
-    /// before it, or with the end of what stood behind that.
-    pub newest: u32,
-    pub turn: Option<Nanos>,
-}
-
-/// So much a socket of Linux holds that is not sent yet, unless it was told to hold more.
-const MOST_QUEUED: u64 = 4 << 20;
-
-impl Total {
-    /// Content of a direction ends in a packet.
-    pub fn passes(&mut self, one: &Direction, at: At) {
-        if one.first.map_or(false, |first| first.packet < at.packet) {
-            self.turn = Some(at.time);
-        }
-    }
-
-    /// Whether what begins a stream stood behind what its side sent of others since it was asked for, all of which were
-    /// opened before it: it comes in a packet with such content, and all of them have ended, or a socket may hold that.
-    pub fn is_turn(&self, stream: &Stream, side: usize, times: &[Nanos]) -> bool {
-        let is_behind = self.turn.is_some() && self.turn == times.first().copied() && self.newest < stream.order;
-        let queued = self.content.saturating_sub(stream.sides[side].beside.before);
-        is_behind && (self.begun == self.ended || queued <= MOST_QUEUED)
-    }
-
-    /// Content came in packets at these times; a pause is one that is longer than this.
-    pub fn sent(&mut self, times: &[Nanos], length: u32, pause: Nanos) {
-        self.content += u64::from(length);
-        for &time in times {
-            let gap = self.last.map_or(0, |last| time.saturating_sub(last));
-            self.active += if (0..=pause).contains(&gap) { gap } else { 0 };
-            self.last = self.last.max(Some(time));
-        }
-    }
 }
 
 /// The frames around the longest stretch in which nothing was sent, and the credit as it began.
@@ -173,7 +123,7 @@ impl Stream {
             opened,
             sides: [direction(), direction()],
             request: None,
-            answer: Answer::default(),
+            answer: ResponseFields::default(),
             reset: None,
         }
     }
@@ -183,12 +133,21 @@ impl Stream {
         Stream::new(0, 0, At { packet: 0, time: 0, frame: 0 }, false)
     }
 
+    /// Lets go of what it holds beside itself.
+    pub fn let_go(&mut self) {
+        for side in &mut self.sides {
+            side.life.spans = None;
+            (side.idle, side.unshown, side.kept) = (None, None, None);
+        }
+    }
+
     /// Whether both directions have ended.
     pub fn is_over(&self) -> bool {
         self.sides.iter().all(|side| side.end.is_some())
     }
 
     /// Notes of which sides it had more content than its window held at once, so that they may have waited, if it is over.
+    #[inline]
     pub fn note_use(&self, uses: &mut [bool; 2]) {
         if self.is_over() {
             self.note_content(uses);
@@ -213,7 +172,7 @@ impl Stream {
     }
 }
 
-impl Answer {
+impl ResponseFields {
     /// Takes the next block of the server.
     pub fn take(&mut self, said: Answered) {
         match self.fields {
@@ -223,11 +182,22 @@ impl Answer {
     }
 }
 
+impl Kept {
+    fn met(&mut self, met: &Met<'_>, pause: Nanos) {
+        match together(met.times, pause) {
+            Some((first, last)) => self.sent.push((first, last, false)),
+            None => self.sent.extend(met.times.iter().enumerate().map(|(at, time)| (*time, *time, at > 0))),
+        }
+        self.frames.push((met.at, met.credit));
+    }
+}
+
 impl Direction {
     fn new(opened: At, has_spans: bool) -> Direction {
         Direction {
             life: Life::new(opened.time, has_spans),
             content: 0,
+            padding: 0,
             first: None,
             last: None,
             last_credit: None,
@@ -238,7 +208,7 @@ impl Direction {
             asked_credit: None,
             was_silent: false,
             beside: Beside::default(),
-            window: Window::default(),
+            window: CountedWindow::default(),
             granted: 0,
             unshown: None,
             unshown_nanos: 0,
@@ -247,6 +217,7 @@ impl Direction {
     }
 
     /// It ends here, if it has not ended before.
+    #[inline]
     pub fn finish_at(&mut self, at: At) {
         if self.end.is_none() {
             self.end = Some(at);
@@ -254,19 +225,14 @@ impl Direction {
         }
     }
 
-    /// A frame of it came.
+    /// A frame of it came. What holds it back is known with when it was asked for.
+    #[inline]
     pub fn met(&mut self, holding: &Holding<'_>, met: &Met<'_>) {
-        let holding = &Holding { asked: self.asked.time, ..*holding };
         if self.first.is_none() {
             self.was_silent = holding.course.is_silent(self.asked.time, met.at.time);
         }
         match &mut self.kept {
-            Some(kept) => {
-                sent(met.times, holding.course.pause, |first, last, is_within| {
-                    kept.sent.push((first, last, is_within))
-                });
-                kept.frames.push((met.at, met.credit));
-            }
+            Some(kept) => kept.met(met, holding.course.pause()),
             None => self.divide(holding, met),
         }
         self.first.get_or_insert(met.at);
@@ -274,14 +240,20 @@ impl Direction {
         self.last_credit = met.credit;
     }
 
+    #[inline]
     fn divide(&mut self, holding: &Holding<'_>, met: &Met<'_>) {
         let idle = self.life.longest_idle;
-        let life = &mut self.life;
-        sent(met.times, holding.course.pause, |first, last, is_within| life.sent(holding, first, last, is_within));
+        match together(met.times, holding.course.pause()) {
+            Some((first, last)) => self.life.sent(holding, first, last, false),
+            None => self.life.sent_apart(holding, met.times),
+        }
         if self.life.longest_idle != idle {
             self.idle = Some(Box::new(Idle { after: Some(met.at), ..self.before_idle() }));
-        } else if let Some(idle) = &mut self.idle {
-            idle.after.get_or_insert(met.at);
+        } else if self.end.is_some() {
+            // A stretch that its end ended is followed by a frame.
+            if let Some(idle) = &mut self.idle {
+                idle.after.get_or_insert(met.at);
+            }
         }
     }
 
@@ -329,9 +301,7 @@ impl Direction {
     pub fn cut(&mut self, holding: &Holding<'_>, times: &[Nanos]) {
         let holding = &Holding { asked: self.asked.time, ..*holding };
         let idle = self.life.longest_idle;
-        for (at, time) in times.iter().enumerate() {
-            self.life.sent(holding, *time, *time, at > 0);
-        }
+        self.life.sent_apart(holding, times);
         if self.life.longest_idle != idle {
             self.idle = Some(Box::new(self.before_idle()));
         }
@@ -347,8 +317,7 @@ impl Direction {
 
     /// DATA came: pauses before it that began without credit, as far as they began within its life and TCP did not
     /// hold back meanwhile.
-    pub fn content(&mut self, course: &Course, times: &[Nanos], length: u32, credit: Option<i64>) {
-        self.content += u64::from(length);
+    pub fn pauses(&mut self, course: &SideCourse, times: &[Nanos], length: u32, credit: Option<i64>) {
         let until = self.end.map_or(Nanos::MAX, |end| end.time);
         if let (Some(unshown), Some(first), Some(last)) = (&mut self.unshown, times.first(), times.last()) {
             if let Some((since, until)) = unshown.content((*first, *last), length, credit).filter(|one| one.0 < until) {
@@ -359,6 +328,7 @@ impl Direction {
     }
 
     /// What its side has sent in all, before its first frame.
+    #[inline]
     pub fn begin_beside(&mut self, total: &Total) {
         if self.first.is_none() {
             let (before, active_before, ended) = (total.content, total.active, total.ended);
@@ -372,6 +342,7 @@ impl Direction {
     }
 
     /// The same as it sends content.
+    #[inline]
     pub fn beside(&mut self, total: &mut Total, times: &[Nanos], length: u32, pause: Nanos) {
         self.begin_beside(total);
         total.begun += u32::from(self.content == u64::from(length));
@@ -382,18 +353,11 @@ impl Direction {
     }
 }
 
-/// When the packets of a frame came: from the first to the last, or of one that took longer than a pause each by itself.
-fn sent(times: &[Nanos], pause: Nanos, mut take: impl FnMut(Nanos, Nanos, bool)) {
-    let (first, last) = match (times.first(), times.last()) {
-        (Some(first), Some(last)) => (*first, *last),
-        _ => return,
-    };
-    if last.saturating_sub(first) <= pause {
-        return take(first, last, false);
-    }
-    for (at, time) in times.iter().enumerate() {
-        take(*time, *time, at > 0);
-    }
+/// When the packets of a frame came, the first and the last one, unless it took longer than a pause.
+#[inline]
+fn together(times: &[Nanos], pause: Nanos) -> Option<(Nanos, Nanos)> {
+    let (first, last) = (*times.first()?, *times.last()?);
+    (last.saturating_sub(first) <= pause).then_some((first, last))
 }
 
 /// The first place at which this does not hold; halves are tried as where all before it do.

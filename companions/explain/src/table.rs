@@ -3,10 +3,10 @@
 
 use std::cell::Cell;
 use std::cmp::Reverse;
-use std::collections::hash_map::RandomState;
 use std::collections::{HashMap, HashSet};
-use std::hash::{BuildHasher, Hasher};
 use std::rc::Rc;
+
+use cutter::Numbers;
 
 use crate::answer::Nanos;
 use crate::requests::Packed;
@@ -15,7 +15,7 @@ use crate::windows::Initial;
 
 #[derive(Debug)]
 pub struct Table {
-    live: HashMap<u32, Box<Stream>, Numbers>,
+    live: Live,
     /// Those that go on, and are packed; and by sides their highest credits, where these are known.
     parked: HashSet<u32, Numbers>,
     parked_highest: Cell<[Option<Highest>; 2]>,
@@ -23,6 +23,138 @@ pub struct Table {
     count: Rc<Cell<usize>>,
     packed: Packed,
     orders: Orders,
+}
+
+/// Streams that are not packed, in no order. Of frames in a row many are of one stream: the last one that was asked for
+/// is found at once. Where many go on, most are found without a hash.
+#[derive(Debug)]
+struct Live {
+    #[allow(clippy::vec_box)] // they would be moved as the list grows
+    streams: Vec<Box<Stream>>,
+    /// Where each stands.
+    places: HashMap<u32, u32, Numbers>,
+    latest: Option<(u32, u32)>,
+    /// Where one may stand, by the lowest bits of its number; nothing where few go on.
+    near: Vec<u32>,
+    /// Room for the next one.
+    spare: Option<Box<Stream>>,
+}
+
+/// So many streams are few.
+const FEW: usize = 8;
+/// So many places are there for each of many streams, at least.
+const NEAR: usize = 2;
+
+impl Live {
+    fn new(numbers: Numbers) -> Live {
+        let places = HashMap::with_hasher(numbers);
+        Live { streams: Vec::new(), places, latest: None, near: Vec::new(), spare: None }
+    }
+
+    fn place_of(&self, number: u32) -> Option<u32> {
+        self.near_place_of(number).or_else(|| self.places.get(&number).copied())
+    }
+
+    /// Where one stands, if that is found without a hash.
+    #[inline]
+    fn near_place_of(&self, number: u32) -> Option<u32> {
+        match self.latest {
+            Some((latest, place)) if latest == number => Some(place),
+            _ => {
+                let place = *self.near.get(self.near_of(number))?;
+                self.streams.get(place as usize).filter(|stream| stream.number == number).map(|_| place)
+            }
+        }
+    }
+
+    /// Which of the near places is a stream's; one that is not there, where there are none.
+    #[inline]
+    fn near_of(&self, number: u32) -> usize {
+        (number / 2) as usize & self.near.len().wrapping_sub(1)
+    }
+
+    /// Notes where one stands.
+    fn note_near(&mut self, number: u32, place: u32) {
+        let near = self.near_of(number);
+        self.near.get_mut(near).into_iter().for_each(|near| *near = place);
+    }
+
+    #[inline(never)]
+    fn far_place_of(&mut self, number: u32) -> Option<u32> {
+        let place = *self.places.get(&number)?;
+        self.note_near(number, place);
+        Some(place)
+    }
+
+    /// Makes more near places, where they are not enough for so many streams.
+    fn grow_near(&mut self) {
+        let count = self.streams.len();
+        if count > FEW && self.near.len() < NEAR * count {
+            self.near = vec![0; (2 * NEAR * count).next_power_of_two()];
+            for place in 0..count {
+                self.note_near(self.streams[place].number, place as u32);
+            }
+        }
+    }
+
+    #[inline]
+    fn get_mut(&mut self, number: u32) -> Option<&mut Stream> {
+        let place = match self.near_place_of(number) {
+            Some(place) => place,
+            None => self.far_place_of(number)?,
+        };
+        self.latest = Some((number, place));
+        self.streams.get_mut(place as usize).map(|stream| &mut **stream)
+    }
+
+    fn get(&self, number: u32) -> Option<&Stream> {
+        self.streams.get(self.place_of(number)? as usize).map(|stream| &**stream)
+    }
+
+    /// A new one.
+    fn open(&mut self, stream: Stream) {
+        let stream = match self.spare.take() {
+            Some(mut room) => {
+                *room = stream;
+                room
+            }
+            None => Box::new(stream),
+        };
+        self.insert(stream);
+    }
+
+    fn insert(&mut self, stream: Box<Stream>) {
+        let place = self.streams.len() as u32;
+        self.latest = Some((stream.number, place));
+        self.places.insert(stream.number, place);
+        self.note_near(stream.number, place);
+        self.streams.push(stream);
+        self.grow_near();
+    }
+
+    /// Takes one out. The last one takes its place.
+    fn remove(&mut self, number: u32) -> Option<Box<Stream>> {
+        let place = self.places.remove(&number)?;
+        let stream = self.streams.swap_remove(place as usize);
+        if let Some(moved) = self.streams.get(place as usize).map(|stream| stream.number) {
+            self.places.insert(moved, place);
+            self.note_near(moved, place);
+        }
+        self.latest = None;
+        Some(stream)
+    }
+
+    /// Lets go of all of which this does not hold, and of room that is not needed.
+    fn retain(&mut self, holds: impl FnMut(&mut Box<Stream>) -> bool) {
+        self.streams.retain_mut(holds);
+        self.streams.shrink_to_fit();
+        self.places.clear();
+        self.places.extend(self.streams.iter().zip(0..).map(|(stream, place)| (stream.number, place)));
+        self.places.shrink_to_fit();
+        (self.latest, self.spare) = (None, None);
+        self.near = Vec::new();
+        self.grow_near();
+    }
 }
 
 /// A credit, how many streams were opened before the one that has it, and that stream: of several the first is the
@@ -40,48 +172,14 @@ struct Orders {
     count: u32,
 }
 
-/// Hashes numbers of streams by a factor that nobody knows before.
-#[derive(Clone, Copy, Debug)]
-pub struct Numbers {
-    factor: u64,
-}
-
-pub struct NumberHasher {
-    factor: u64,
-    hash: u64,
-}
-
-impl Numbers {
-    pub fn new() -> Numbers {
-        Numbers { factor: RandomState::new().build_hasher().finish() | 1 }
-    }
-}
-
-impl BuildHasher for Numbers {
-    type Hasher = NumberHasher;
-
-    fn build_hasher(&self) -> NumberHasher {
-        NumberHasher { factor: self.factor, hash: 0 }
-    }
-}
-
-impl Hasher for NumberHasher {
-    fn finish(&self) -> u64 {
-        self.hash ^ self.hash >> 32
-    }
-
-    fn write(&mut self, bytes: &[u8]) {
-        bytes.iter().for_each(|byte| self.write_u32(u32::from(*byte)));
-    }
-
-    fn write_u32(&mut self, number: u32) {
-        self.hash = (self.hash.rotate_left(32) ^ u64::from(number)).wrapping_add(1).wrapping_mul(self.factor);
-    }
-}
-
 impl Orders {
+    /// Mostly it is asked for one that is higher than all before.
+    #[inline(never)]
     fn of(&self, number: u32) -> Option<u32> {
         let growing = &self.growing[(number & 1) as usize];
+        if growing.last().map_or(true, |last| last.0 < number) {
+            return None;
+        }
         match growing.binary_search_by_key(&number, |one| one.0) {
             Ok(at) => growing.get(at).map(|one| one.1),
             Err(_) => self.others.get(&number).copied(),
@@ -105,7 +203,7 @@ impl Orders {
 impl Table {
     pub fn new(round_trip: Nanos, numbers: Numbers, count: Rc<Cell<usize>>) -> Table {
         Table {
-            live: HashMap::with_hasher(numbers),
+            live: Live::new(numbers),
             parked: HashSet::with_hasher(numbers),
             parked_highest: Cell::default(),
             count,
@@ -114,54 +212,72 @@ impl Table {
         }
     }
 
+    /// What hops of a proxy are sought by is kept of all streams, if it is wanted.
+    pub fn with_briefs(mut self, are_wanted: bool) -> Table {
+        if are_wanted {
+            self.packed.keep_briefs();
+        }
+        self
+    }
+
     /// Whether a stream of this number was opened.
     pub fn has(&self, number: u32) -> bool {
-        self.live.contains_key(&number) || self.orders.of(number).is_some()
+        self.live.place_of(number).is_some() || self.orders.of(number).is_some()
     }
 
     /// Opens a stream, by how many were opened before.
     pub fn open(&mut self, number: u32, make: impl FnOnce(u32) -> Stream) {
         let order = self.orders.add(number);
         self.count.set(self.count.get() + 1);
-        self.live.insert(number, Box::new(make(order)));
+        self.live.open(make(order));
     }
 
     /// Does something to a stream that was opened; also to one that is over.
+    #[inline]
     pub fn touch<T>(&mut self, number: u32, change: impl FnOnce(&mut Stream) -> T) -> Option<T> {
-        if let Some(stream) = self.live.get_mut(&number) {
-            return Some(change(stream));
+        let Table { live, packed, orders, .. } = self;
+        let mut unpacked = None;
+        let stream = match live.get_mut(number) {
+            Some(stream) => stream,
+            None => unpacked.insert(unpacked_of(packed, orders.of(number)?)?),
+        };
+        let changed = change(stream);
+        if let Some(stream) = unpacked {
+            self.put_back(number, stream);
         }
-        let mut stream = self.packed.get(self.orders.of(number)? as usize)?;
-        let changed = change(&mut stream);
+        Some(changed)
+    }
+
+    /// One that goes on stays unpacked.
+    #[inline(never)]
+    fn put_back(&mut self, number: u32, stream: Box<Stream>) {
         if self.parked.remove(&number) {
             self.parked_highest.set(Default::default());
             self.count.set(self.count.get() + 1);
-            self.live.insert(number, Box::new(stream));
+            self.live.insert(stream);
         } else {
             self.packed.put(&stream);
         }
-        Some(changed)
     }
 
     /// Packs all that can go on from what is packed.
     pub fn park(&mut self) {
         let Table { live, parked, parked_highest, count, packed, .. } = self;
         parked_highest.set(Default::default());
-        live.retain(|number, stream| {
+        live.retain(|stream| {
             let can_be = stream.sides.iter().all(|side| side.unshown.is_none() && side.kept.is_none());
             if can_be {
                 packed.put(stream);
-                parked.insert(*number);
+                parked.insert(stream.number);
                 count.set(count.get() - 1);
             }
             !can_be
         });
-        live.shrink_to_fit();
     }
 
     /// Looks at a stream.
     pub fn look<T>(&self, number: u32, at: impl FnOnce(&Stream) -> T) -> Option<T> {
-        match self.live.get(&number) {
+        match self.live.get(number) {
             Some(stream) => Some(at(stream)),
             None => self.packed.get(self.orders.of(number)? as usize).map(|stream| at(&stream)),
         }
@@ -169,18 +285,20 @@ impl Table {
 
     /// Finishes a stream that is over, and packs it.
     pub fn settle(&mut self, number: u32, finish: impl FnOnce(&mut Stream)) {
-        if self.live.get(&number).map_or(false, |stream| stream.is_over()) {
-            if let Some(mut stream) = self.live.remove(&number) {
+        if self.live.get(number).map_or(false, Stream::is_over) {
+            if let Some(mut stream) = self.live.remove(number) {
                 self.count.set(self.count.get() - 1);
                 finish(&mut stream);
                 self.packed.put(&stream);
+                stream.let_go();
+                self.live.spare = Some(stream);
             }
         }
     }
 
     /// Those that go on, in no order.
     pub fn each_going_on(&self, mut take: impl FnMut(&Stream)) {
-        self.live.values().for_each(|stream| take(stream));
+        self.live.streams.iter().for_each(|stream| take(stream));
         let parked = self.parked.iter().filter_map(|number| self.orders.of(*number));
         parked.filter_map(|order| self.packed.get(order as usize)).for_each(|stream| take(&stream));
     }
@@ -188,7 +306,7 @@ impl Table {
     /// The highest credit of those that go on, for what a side sends, and the stream that has it.
     pub fn highest_credit(&self, side: usize, initial: &Initial) -> Option<(i64, u32)> {
         let mut all = self.parked_highest(side);
-        self.live.values().for_each(|stream| note_credit(&mut all, side, stream));
+        self.live.streams.iter().for_each(|stream| note_credit(&mut all, side, stream));
         let [ended, live] = all;
         let live = live.map(|(credit, order, number)| (credit + initial.value, order, number));
         ended.max(live).map(|(credit, _, number)| (credit, number))
@@ -210,13 +328,15 @@ impl Table {
 
     /// Ends each stream that goes on, and packs it.
     pub fn end(mut self, mut finish: impl FnMut(&mut Stream)) -> Packed {
-        self.count.set(self.count.get() - self.live.len());
-        let mut going_on: Vec<(u32, u32)> = self.live.values().map(|stream| (stream.order, stream.number)).collect();
+        let live = &self.live.streams;
+        self.count.set(self.count.get() - live.len());
+        let mut going_on: Vec<(u32, u32)> = live.iter().map(|stream| (stream.order, stream.number)).collect();
         going_on.extend(self.parked.iter().filter_map(|number| Some((self.orders.of(*number)?, *number))));
         going_on.sort_unstable();
         for (order, number) in going_on {
-            let live = self.live.remove(&number).map(|stream| *stream);
-            if let Some(mut stream) = live.or_else(|| self.packed.get(order as usize)) {
+            let packed = &self.packed;
+            let live = self.live.remove(number);
+            if let Some(mut stream) = live.or_else(|| unpacked_of(packed, order)) {
                 finish(&mut stream);
                 self.packed.put(&stream);
             }
@@ -224,6 +344,11 @@ impl Table {
         self.packed.end();
         self.packed
     }
+}
+
+#[inline(never)]
+fn unpacked_of(packed: &Packed, order: u32) -> Option<Box<Stream>> {
+    packed.get(order as usize).map(Box::new)
 }
 
 fn note_credit(found: &mut Highest, side: usize, stream: &Stream) {
@@ -235,95 +360,4 @@ fn note_credit(found: &mut Highest, side: usize, stream: &Stream) {
 }
 
 #[cfg(test)]
-mod tests {
-    use super::*;
-    use crate::answer::At;
-
-    const OPENED: At = At { packet: 1, time: 2, frame: 3 };
-
-    fn table() -> Table {
-        Table::new(0, Numbers::new(), Rc::default())
-    }
-
-    fn open(table: &mut Table, number: u32) {
-        table.open(number, |order| Stream::new(number, order, OPENED, false));
-    }
-
-    #[test]
-    fn streams_are_found_when_they_are_over() {
-        let mut table = table();
-        for number in [1, 2, 7, 5, 9] {
-            open(&mut table, number);
-        }
-        for number in [5, 7] {
-            table.touch(number, |stream| stream.sides.iter_mut().for_each(|side| side.finish_at(OPENED)));
-            table.settle(number, |_| ());
-        }
-        assert_eq!((table.live.len(), table.count.get()), (3, 3));
-        assert!(table.has(5) && table.has(2) && !table.has(3));
-        table.touch(5, |stream| stream.sides[0].content = u64::MAX);
-        assert_eq!(table.look(5, |stream| (stream.sides[0].content, stream.order)), Some((u64::MAX, 3)));
-        assert_eq!(table.touch(3, |_| ()), None);
-        let packed = table.end(|_| ());
-        let numbers: Vec<u32> = (0..5).filter_map(|at| packed.get(at)).map(|stream| stream.number).collect();
-        assert_eq!(numbers, [1, 2, 7, 5, 9]);
-    }
-
-    #[test]
-    fn streams_go_on_from_what_is_packed() {
-        let mut table = table();
-        for number in [1, 3, 5] {
-            open(&mut table, number);
-        }
-        table.touch(3, |stream| stream.sides[1].kept = Some(Default::default()));
-        table.park();
-        assert_eq!((table.live.len(), table.parked.len(), table.count.get()), (1, 2, 1));
-        let mut numbers = Vec::new();
-        table.each_going_on(|stream| numbers.push(stream.number));
-        numbers.sort_unstable();
-        assert_eq!(numbers, [1, 3, 5]);
-        table.touch(5, |stream| stream.sides[0].content = 7);
-        assert_eq!((table.live.len(), table.parked.len()), (2, 1));
-        let mut ended = Vec::new();
-        let packed = table.end(|stream| ended.push((stream.number, stream.sides[0].content)));
-        assert_eq!(ended, [(1, 0), (3, 0), (5, 7)]);
-        assert_eq!(packed.get(2).map(|stream| stream.sides[0].content), Some(7));
-    }
-
-    #[test]
-    fn the_highest_credit() {
-        let (mut table, mut initial) = (table(), Initial::default());
-        for (number, more) in [(1, 1), (3, 10), (5, 10)] {
-            open(&mut table, number);
-            table.touch(number, |stream| stream.sides[1].window.open(&initial));
-            table.touch(number, |stream| stream.sides[1].window.grant(&initial, more));
-        }
-        for _ in 0..2 {
-            let found = [0, 1].map(|side| table.highest_credit(side, &initial));
-            assert_eq!(found, [None, Some((65_545, 3))]);
-            table.park();
-        }
-        initial.change(7);
-        assert_eq!(table.highest_credit(1, &initial), Some((17, 3)));
-        table.touch(1, |stream| stream.sides[1].window.grant(&initial, 100));
-        assert_eq!(table.highest_credit(1, &initial), Some((108, 1)));
-        table.park();
-        table.touch(1, |stream| stream.sides[1].window.end(&initial));
-        initial.change(0);
-        assert_eq!(table.highest_credit(1, &initial), Some((108, 1)), "it has ended by itself");
-        table.touch(1, |stream| stream.sides[1].finish_at(OPENED));
-        assert_eq!(table.highest_credit(1, &initial), Some((10, 3)));
-    }
-
-    #[test]
-    fn what_is_idle_goes() {
-        let mut table = table();
-        open(&mut table, 1);
-        table.touch(1, |stream| stream.sides.iter_mut().for_each(|side| side.finish_at(OPENED)));
-        table.settle(1, |_| ());
-        for shift in 0..64 {
-            table.touch(1, |stream| stream.sides[1].content = 1 << shift);
-        }
-        assert_eq!(table.look(1, |stream| stream.sides[1].content), Some(1 << 63));
-    }
-}
+mod tests;

@@ -1,7 +1,7 @@
 //! What TCP did on a connection, as far as the answer needs it: its ends, and what it held back.
 
 use captures::Arrival;
-use import::{Again, Course, Held, Why};
+use import::{Again, Held, TcpCourse, Why};
 
 use crate::answer::{At, Ended, How, Nanos};
 use crate::intervals::{Interval, Stretches};
@@ -45,7 +45,7 @@ pub fn at_of(arrival: Arrival) -> At {
 }
 
 /// A connection's last packet, or this one.
-pub fn last_of(course: &Course, or: At) -> At {
+pub fn last_of(course: &TcpCourse, or: At) -> At {
     match [0, 1].map(|side| course.sides[side].last) {
         [Some(client), Some(server)] if server.nanos > client.nanos => at_of(server),
         [Some(one), _] | [None, Some(one)] => at_of(one),
@@ -61,8 +61,9 @@ fn rank(why: Why) -> u8 {
 }
 
 impl Tcp {
-    pub fn new(course: &mut Course, last: At) -> Tcp {
-        let mut closes = Vec::new();
+    pub fn new(course: &mut TcpCourse, last: At) -> Tcp {
+        let are_there = course.sides.iter().flat_map(|one| [one.fin.is_some(), one.rst.is_some()]);
+        let mut closes = Vec::with_capacity(are_there.filter(|is_there| *is_there).count());
         for (side, one) in course.sides.iter().enumerate() {
             closes.extend(one.fin.map(|fin| (at_of(fin), How::Fin, side)));
             closes.extend(one.rst.map(|rst| (at_of(rst), How::Rst, side)));
@@ -168,7 +169,7 @@ mod tests {
     }
 
     fn tcp(held: Vec<Held>) -> Tcp {
-        let mut course = Course {
+        let mut course = TcpCourse {
             syn: arrival(1),
             syn_ack: None,
             ack: None,

@@ -184,7 +184,7 @@ impl Note {
 #[cfg(test)]
 mod tests {
     use super::*;
-    use crate::table::Numbers;
+    use cutter::Numbers;
     use std::rc::Rc;
 
     fn at(frame: u32) -> At {

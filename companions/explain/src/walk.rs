@@ -1,6 +1,9 @@
 //! The second walk over one connection: its frames, in the order of the report's numbers.
 
+mod content;
+mod directions;
 mod making;
+mod opening;
 
 use std::cell::Cell;
 use std::collections::HashMap;
@@ -8,12 +11,12 @@ use std::rc::Rc;
 
 use programs::Failure;
 
-use crate::answer::{is_pushed, At, Nanos, Place};
-use crate::beginning::{Beginning, Content};
-use crate::blocks::{answered_of, asked_of, Blocks, Decoded, Names};
+use crate::answer::{At, Nanos, Place};
+use crate::beginning::Beginning;
+use crate::blocks::{Blocks, Names};
 use crate::bursts::Bursts;
 use crate::charts::{Charts, Choice, Left};
-use crate::cutter::{flag, kind, Cut};
+use crate::cutter::{flag, kind, Cut, Numbers};
 use crate::findings::{Findings, Here};
 use crate::intervals::Interval;
 use crate::leaks::Leaks;
@@ -22,15 +25,13 @@ use crate::names::Interner;
 use crate::seen::{About, Key};
 use crate::settings::{Settings, Values};
 use crate::signals::Signals;
-use crate::stream::{Asked, Kept, Met, Reset, Stream, Total};
-use crate::table::{Numbers, Table};
+use crate::stream::{RequestFields, Reset, Total};
+use crate::table::Table;
 use crate::unanswered::Unanswered;
 use crate::unshown::Unshown;
 use crate::windows::{ConnectionWindow, Initial};
 
 const STREAM: u32 = (1 << 31) - 1;
-const PRIORITY_FIELDS: usize = 5;
-const PROMISED_STREAM: usize = 4;
 const GOAWAY_FIELDS: usize = 8;
 /// So many stretches in which a side sent are kept; more are where a stream goes on from before all of them.
 pub const MOST_KEPT: usize = 1024;
@@ -42,6 +43,8 @@ pub struct Asking {
     pub names: Names,
     pub has_spans: bool,
     pub has_frames: bool,
+    /// Whether both legs of proxies are looked for.
+    pub has_legs: bool,
     /// What is shown in charts, where they are asked for.
     pub charts: Option<Rc<Choice>>,
     pub interner: Interner,
@@ -84,6 +87,8 @@ pub struct Walk {
     pub charts: Option<Box<Charts>>,
     /// What was made up of a connection that began before the capture, and whether a frame of each side was captured.
     pub beginning: Option<Box<Beginning>>,
+    /// Of streams that were open across a gap, what their requests asked for.
+    pub asked_before: HashMap<u32, RequestFields>,
     pub has_frames: [bool; 2],
 }
 
@@ -117,7 +122,7 @@ impl Walk {
         (record, at): (u64, At),
     ) -> Result<(), Failure> {
         if self.beginning.as_ref().map_or(false, |beginning| beginning.left > 0) {
-            self.make_up(asking, Frame { side, cut, at, record, is_judged: true, is_first: false });
+            self.make_up(asking, &Frame { side, cut, at, record, is_judged: true, is_first: false });
             return Ok(());
         }
         self.number += 1;
@@ -127,40 +132,53 @@ impl Walk {
             self.stop = Some(at);
         }
         let is_first = !std::mem::replace(&mut self.has_frames[side], true);
-        let frame = Frame { side, cut, at, record, is_judged, is_first };
+        let frame = &Frame { side, cut, at, record, is_judged, is_first };
         if let kind::DATA | kind::HEADERS | kind::PUSH_PROMISE | kind::CONTINUATION = cut.head.kind {
             self.about.courses[side].sent(cut.times);
         }
         match cut.head.kind {
             kind::DATA => self.data(frame),
+            kind::WINDOW_UPDATE => self.grant(frame),
+            _ => self.other(asking, frame),
+        }
+        self.after(frame)
+    }
+
+    /// A frame of a kind that is rare beside those of DATA and WINDOW_UPDATE.
+    #[inline(never)]
+    fn other(&mut self, asking: &mut Asking, frame: &Frame<'_>) {
+        match frame.cut.head.kind {
             kind::HEADERS => self.headers(asking, frame),
             kind::RST_STREAM => self.reset(frame),
             kind::SETTINGS => self.settings(asking, frame),
             kind::PUSH_PROMISE => self.promise(asking, frame),
             kind::GOAWAY => self.goaway(frame),
-            kind::WINDOW_UPDATE => self.grant(frame),
             kind::CONTINUATION => self.continuation(asking, frame),
             _ => {}
         }
-        self.after(frame)
+    }
+
+    /// Findings stand at a frame.
+    #[inline(never)]
+    fn find(&mut self, frame: &Frame<'_>) -> Result<(), Failure> {
+        let Walk { findings, about, known, settings, table, initials, windows, overflow, .. } = self;
+        let (at, record, kind) = (frame.at, frame.record, frame.cut.head.kind);
+        let is_first = frame.is_first;
+        let here = Here { at, record, kind, is_first, overflow: *overflow, known, about, settings };
+        findings.take(&here, |window| credit_of(window, table, initials, windows))
     }
 
     /// All that a frame does is done.
-    fn after(&mut self, frame: Frame<'_>) -> Result<(), Failure> {
+    fn after(&mut self, frame: &Frame<'_>) -> Result<(), Failure> {
         if self.findings.stands_at(self.number) {
-            let Walk { findings, about, known, settings, table, initials, windows, overflow, .. } = self;
-            let (at, record, kind) = (frame.at, frame.record, frame.cut.head.kind);
-            let is_first = frame.is_first;
-            let here = Here { at, record, kind, is_first, overflow: *overflow, known, about, settings };
-            findings.take(&here, |window| credit_of(window, table, initials, windows))?;
+            self.find(frame)?;
         }
-        for leaks in self.leaks.iter_mut().flatten() {
-            leaks.after(self.number, &self.table);
+        if !matches!(self.leaks, [None, None]) {
+            self.leaks.iter_mut().flatten().for_each(|leaks| leaks.after(self.number, &self.table));
         }
         self.overflow = None;
-        if let Walk { charts: Some(charts), table, initials, windows, .. } = self {
-            let (kind, stream) = (frame.cut.head.kind, frame.cut.head.stream);
-            charts.after(&Left { at: frame.at, kind, stream, table, initials, windows });
+        if self.charts.is_some() {
+            self.chart(frame);
         }
         self.about.courses[frame.side].came(frame.at.time);
         let head = &frame.cut.head;
@@ -175,8 +193,17 @@ impl Walk {
         Ok(())
     }
 
+    #[inline(never)]
+    fn chart(&mut self, frame: &Frame<'_>) {
+        let Walk { charts, table, initials, windows, .. } = self;
+        let (kind, stream) = (frame.cut.head.kind, frame.cut.head.stream);
+        let left = Left { at: frame.at, kind, stream, table, initials, windows };
+        charts.iter_mut().for_each(|charts| charts.after(&left));
+    }
+
     /// Divides what is left of the lives of a stream that is over, and packs it. A frame of it that has begun belongs to
     /// its life.
+    #[inline(never)]
     fn settle(&mut self, number: u32) {
         let Walk { table, about, begun, .. } = self;
         table.settle(number, |stream| {
@@ -191,6 +218,7 @@ impl Walk {
     }
 
     /// Lets go of stretches before all that is to be divided.
+    #[inline(never)]
     fn forget(&mut self, side: usize) {
         let mut needed = Nanos::MAX;
         self.table.each_going_on(|stream| {
@@ -204,152 +232,8 @@ impl Walk {
         self.most_kept[side] = MOST_KEPT.max(2 * course.kept());
     }
 
-    fn data(&mut self, frame: Frame<'_>) {
-        let Frame { side, cut, is_judged, .. } = frame;
-        if cut.body(0).is_none() {
-            return;
-        }
-        let length = cut.head.length;
-        self.windows[side].content(if is_judged { length } else { 0 });
-        if let (Some((unshown, found)), Some(first), Some(last)) =
-            (&mut self.unshown[side], cut.times.first(), cut.times.last())
-        {
-            let course = &self.about.courses[side];
-            let pause = unshown.content((*first, *last), length, None);
-            found.extend(pause.map(|(begin, end)| (begin, end - course.tcp_within(begin, end))));
-        }
-        let Walk { table, initials, windows, about, leaks, uses_window, totals, .. } = self;
-        let touched = table.touch(cut.head.stream, |stream| {
-            let one = &mut stream.sides[side];
-            let before = one.window.value(&initials[side]);
-            one.content(&about.courses[side], cut.times, length, before);
-            if length > 0 && one.end.is_none() {
-                one.beside(&mut totals[side], cut.times, length, about.round_trip.nanos().unwrap_or(0) / 8);
-            }
-            one.window.content(&initials[side], if is_judged { length } else { 0 });
-            if let Some(leaks) = &mut leaks[side] {
-                leaks.content(Some(stream), length);
-            }
-            met(stream, frame, about, (initials, windows), totals);
-            totals[side].passes(&stream.sides[side], frame.at);
-            stream.note_use(uses_window);
-        });
-        if let Some(beginning) = &mut self.beginning {
-            let number = cut.head.stream;
-            let own = table.look(number, |stream| stream.sides[side].window.value(&initials[side])).flatten();
-            let (left, ends) = ([own, Some(windows[side].credit)], cut.head.has(flag::END_STREAM));
-            let first = cut.times.first().copied().unwrap_or(frame.at.time);
-            beginning.content(&Content { side, stream: number, first, last: frame.at.time, ends, left });
-        }
-        if let (None, Some(leaks)) = (touched, &mut leaks[side]) {
-            leaks.content(None, length);
-        }
-    }
-
-    fn headers(&mut self, asking: &mut Asking, frame: Frame<'_>) {
-        let Frame { side, cut, .. } = frame;
-        let fields = if cut.head.has(flag::PRIORITY) { PRIORITY_FIELDS } else { 0 };
-        let body = cut.body(fields);
-        let number = cut.head.stream;
-        if body.is_some() {
-            if side == import::CLIENT && number % 2 == 1 && !self.table.has(number) {
-                self.open(asking, frame, number, 0);
-            }
-            let Walk { table, initials, windows, about, uses_window, totals, .. } = self;
-            table.touch(number, |stream| {
-                met(stream, frame, about, (initials, windows), totals);
-                stream.note_use(uses_window);
-            });
-        }
-        let octets = body.and_then(|(begin, end)| cut.payload.get(begin..end.min(cut.payload.len())));
-        self.block(asking, frame, (number, false), octets.unwrap_or_default());
-    }
-
-    /// A stream opens by HEADERS of the client, or by a promise of the server.
-    fn open(&mut self, asking: &Asking, frame: Frame<'_>, number: u32, promised_on: u32) {
-        self.charts.iter_mut().for_each(|charts| charts.opened = Some(number));
-        let Walk { table, initials, about, known, windows, early_grants, totals, .. } = self;
-        let is_pushed = is_pushed(number);
-        let ends_client = is_pushed || frame.cut.head.has(flag::END_STREAM);
-        table.open(number, |order| {
-            let mut stream = Stream::new(number, order, frame.at, asking.has_spans);
-            stream.promised_on = promised_on;
-            for (side, one) in stream.sides.iter_mut().enumerate() {
-                if frame.is_judged && !(side == import::CLIENT && ends_client) {
-                    one.window.open(&initials[side]);
-                }
-                one.unshown = Walk::unshown_of(about, side).map(|nanos| Box::new(Unshown::new(nanos)));
-                if !early_grants.is_empty() {
-                    let grants = early_grants.remove(&(side, number)).unwrap_or_default();
-                    grants.iter().for_each(|(time, amount)| one.granted(*time, *amount, known.back.is_none()));
-                }
-                one.kept = known.back.map(|_| Box::new(Kept::default()));
-                one.begin_beside(&totals[side]);
-                one.asked_credit = one.window.value(&initials[side]).map(|credit| credit.min(windows[side].credit));
-            }
-            if is_pushed {
-                stream.sides[import::CLIENT].finish_at(frame.at);
-            }
-            stream
-        });
-    }
-
-    fn promise(&mut self, asking: &mut Asking, frame: Frame<'_>) {
-        let Frame { side, cut, .. } = frame;
-        let (begin, end) = match cut.body(PROMISED_STREAM) {
-            Some(body) => body,
-            None => return,
-        };
-        let named = cut.payload.get(begin - PROMISED_STREAM..begin).and_then(|bytes| bytes.try_into().ok());
-        let number = named.map_or(0, u32::from_be_bytes) & STREAM;
-        let is_new = number != 0 && number != cut.head.stream && !self.table.has(number);
-        if side == import::SERVER && number % 2 == 0 && is_new {
-            self.open(asking, frame, number, cut.head.stream);
-        }
-        let octets = cut.payload.get(begin..end.min(cut.payload.len())).unwrap_or_default();
-        self.block(asking, frame, (number, true), octets);
-    }
-
-    fn block(&mut self, asking: &mut Asking, frame: Frame<'_>, of: (u32, bool), octets: &[u8]) {
-        let is_whole = frame.cut.head.has(flag::END_HEADERS);
-        let decoded = self.blocks[frame.side].begin(frame.at, of, octets, is_whole);
-        self.decoded(asking, frame.side, decoded);
-    }
-
-    fn continuation(&mut self, asking: &mut Asking, frame: Frame<'_>) {
-        let Frame { side, cut, .. } = frame;
-        let is_promise = match self.blocks[side].is_promise() {
-            Some(is_promise) => is_promise,
-            None => return,
-        };
-        if !is_promise {
-            let Walk { table, initials, windows, about, totals, .. } = self;
-            table.touch(cut.head.stream, |stream| met(stream, frame, about, (initials, windows), totals));
-        }
-        let decoded = self.blocks[side].go_on(cut.payload, cut.head.has(flag::END_HEADERS));
-        self.decoded(asking, side, decoded);
-    }
-
-    fn decoded(&mut self, asking: &mut Asking, side: usize, decoded: Option<Decoded>) {
-        let Decoded { stream, is_promise, fields } = match decoded {
-            Some(decoded) => decoded,
-            None => return,
-        };
-        let Asking { names, interner, .. } = asking;
-        self.table.touch(stream, |stream| {
-            let is_known = |request: Asked| !is_promise || !request.is_empty;
-            let is_asked = stream.request.map_or(false, is_known);
-            if (is_promise || side == import::CLIENT) && !is_asked {
-                stream.request = Some(asked_of(&fields, *names, interner));
-            }
-            if !is_promise && side == import::SERVER {
-                stream.answer.take(answered_of(&fields));
-            }
-        });
-    }
-
-    fn reset(&mut self, frame: Frame<'_>) {
-        let Frame { side, cut, at, .. } = frame;
+    fn reset(&mut self, frame: &Frame<'_>) {
+        let Frame { side, cut, at, .. } = *frame;
         let code = match cut.number() {
             Some(code) if cut.head.length == 4 => code,
             _ => return,
@@ -375,8 +259,8 @@ impl Walk {
         });
     }
 
-    fn settings(&mut self, asking: &Asking, frame: Frame<'_>) {
-        let Frame { side, cut, at, is_judged, .. } = frame;
+    fn settings(&mut self, asking: &Asking, frame: &Frame<'_>) {
+        let Frame { side, cut, at, is_judged, .. } = *frame;
         if cut.head.has(flag::ACK) {
             let initial = if cut.head.length == 0 { self.settings.acknowledged(side, at) } else { None };
             if cut.head.length == 0 && self.about.inferred.is_none() {
@@ -400,8 +284,8 @@ impl Walk {
         }
     }
 
-    fn goaway(&mut self, frame: Frame<'_>) {
-        let Frame { side, cut, at, .. } = frame;
+    fn goaway(&mut self, frame: &Frame<'_>) {
+        let Frame { side, cut, at, .. } = *frame;
         if let Some([a, b, c, d, e, f, g, h]) =
             cut.payload.get(..GOAWAY_FIELDS).and_then(|front| <[u8; 8]>::try_from(front).ok())
         {
@@ -411,8 +295,8 @@ impl Walk {
         }
     }
 
-    fn grant(&mut self, frame: Frame<'_>) {
-        let Frame { side, cut, at, is_judged, .. } = frame;
+    fn grant(&mut self, frame: &Frame<'_>) {
+        let Frame { side, cut, at, is_judged, .. } = *frame;
         let (amount, sender, number) = match cut.number() {
             Some(amount) if cut.head.length == 4 => (amount & STREAM, 1 - side, cut.head.stream),
             _ => return,
@@ -445,49 +329,6 @@ impl Walk {
                 grants.push((at.time, amount));
             }
         }
-    }
-}
-
-/// A frame of a stream came, that may begin or end its direction.
-fn met(
-    stream: &mut Stream,
-    frame: Frame<'_>,
-    about: &About,
-    (initials, windows): (&[Initial; 2], &[ConnectionWindow; 2]),
-    totals: &mut [Total; 2],
-) {
-    let Frame { side, cut, at, .. } = frame;
-    let credit = |stream: &Stream, side: usize| {
-        stream.sides[side].window.value(&initials[side]).map(|credit| credit.min(windows[side].credit))
-    };
-    let met = Met { times: cut.times, at, credit: credit(stream, side) };
-    let mut holding = about.holding(side, stream.number);
-    let ends = cut.head.kind != kind::CONTINUATION && cut.head.has(flag::END_STREAM);
-    if stream.sides[side].first.is_none() && about.was_open(stream.number) && (ends || cut.head.kind != kind::HEADERS) {
-        // It had begun before the capture.
-        let met = Met { times: &[stream.opened.time], at: stream.opened, credit: credit(stream, side) };
-        stream.sides[side].met(&holding, &met);
-    }
-    if stream.sides[side].first.is_none() {
-        match about.is_far() && totals[side].is_turn(stream, side, cut.times) {
-            // What begins in the packet in which this frame ends stood behind it.
-            true => (holding.turn, totals[side].turn) = (about.courses[side].sends_since, Some(at.time)),
-            false => stream.sides[side].begin_beside(&totals[side]),
-        }
-        totals[side].newest = totals[side].newest.max(stream.order);
-    }
-    stream.sides[side].met(&holding, &met);
-    let other = 1 - side;
-    if stream.sides[other].first.is_none() {
-        stream.sides[other].asked_credit = credit(stream, other);
-        stream.sides[other].asked = at;
-        stream.sides[other].begin_beside(&totals[other]);
-    }
-    let one = &mut stream.sides[side];
-    totals[side].ended += u32::from(ends && one.end.is_none() && one.content > 0);
-    if ends {
-        one.window.end(&initials[side]);
-        one.finish_at(at);
     }
 }
 

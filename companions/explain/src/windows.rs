@@ -1,8 +1,6 @@
 //! The credit of windows, by the rules of the audit (RFC 9113, 5.2 and 6.9; docs/AUDIT_RULES.md, 8).
 
-/// What a connection's window begins with, and a stream's where no SETTINGS say another initial window (6.9.2).
-pub const FIRST_CREDIT: i64 = 65_535;
-pub const MOST_CREDIT: i64 = (1 << 31) - 1;
+pub use cutter::{FIRST_CREDIT, MOST_CREDIT};
 
 /// The initial window in force for what a side sends. A change moves the windows of all its streams, which therefore
 /// count beside it.
@@ -39,7 +37,7 @@ impl Initial {
 
 /// The window of a stream for what one side sends.
 #[derive(Clone, Debug, Default, PartialEq, Eq)]
-pub struct Window {
+pub struct CountedWindow {
     pub is_live: bool,
     /// Whether it ever was.
     pub was_live: bool,
@@ -52,18 +50,20 @@ pub struct Window {
     pub change: u32,
 }
 
-impl Window {
+impl CountedWindow {
     pub fn open(&mut self, initial: &Initial) {
-        *self = Window { is_live: true, was_live: true, change: initial.changes, ..Window::default() };
+        *self = CountedWindow { is_live: true, was_live: true, change: initial.changes, ..CountedWindow::default() };
     }
 
     /// Its credit, or the last that it had; none where it never was live.
+    #[inline]
     pub fn value(&self, initial: &Initial) -> Option<i64> {
         let beside = if self.is_live { initial.value } else { 0 };
         self.was_live.then_some(self.credit + beside)
     }
 
     /// Its side sent content.
+    #[inline]
     pub fn content(&mut self, initial: &Initial, length: u32) {
         if self.largest.is_none() {
             self.largest = self.value(initial);
@@ -106,7 +106,15 @@ impl Window {
     }
 
     /// Looks how high it was since the last look.
+    #[inline]
     pub fn look(&mut self, initial: &Initial) {
+        if self.change != initial.changes {
+            self.look_back(initial);
+        }
+    }
+
+    #[inline(never)]
+    fn look_back(&mut self, initial: &Initial) {
         if let (true, Some(largest)) = (self.is_live, self.largest) {
             let highest = initial.highest_since(self.change).map_or(largest, |highest| self.credit + highest);
             self.largest = Some(largest.max(highest));
@@ -132,13 +140,17 @@ impl Default for ConnectionWindow {
 
 impl ConnectionWindow {
     /// DATA came, of which so much counts.
+    #[inline]
     pub fn content(&mut self, length: u32) {
-        self.largest = self.largest.or(Some(self.credit));
-        self.first = self.first.or(self.largest);
+        if self.first.is_none() {
+            self.largest = self.largest.or(Some(self.credit));
+            self.first = self.largest;
+        }
         self.credit -= i64::from(length);
     }
 
     /// An overflow is no end of it.
+    #[inline]
     pub fn grant(&mut self, amount: u32) {
         self.credit += i64::from(amount);
         self.largest = self.largest.map(|largest| largest.max(self.credit));
@@ -152,7 +164,7 @@ mod tests {
     #[test]
     fn credit_moves_with_the_initial_window() {
         let mut initial = Initial::default();
-        let mut window = Window::default();
+        let mut window = CountedWindow::default();
         assert_eq!(window.value(&initial), None);
         window.open(&initial);
         initial.change(10);
@@ -175,7 +187,7 @@ mod tests {
     #[test]
     fn a_grant_that_is_too_high_ends_it() {
         let initial = Initial::default();
-        let mut window = Window::default();
+        let mut window = CountedWindow::default();
         window.open(&initial);
         assert_eq!(window.grant(&initial, MOST_CREDIT as u32), Some(MOST_CREDIT + FIRST_CREDIT));
         window.content(&initial, 5);

@@ -1,5 +1,8 @@
 //! How the answer is worded: durations, counts, codes, reasons.
 
+use std::fmt::Write;
+
+pub use reports::count;
 use reports::grouped;
 
 use crate::answer::Nanos;
@@ -21,6 +24,8 @@ const CODES: [&str; 14] = [
     "HTTP_1_1_REQUIRED",
 ];
 const UNITS: [(&str, Nanos); 3] = [("s", 1_000_000_000), ("ms", 1_000_000), ("µs", 1_000)];
+/// So many bytes most durations take.
+const USUAL_TIME: usize = 16;
 /// Why connections were not audited, in words behind "3 connections".
 const REASONS: [(&str, &str); 15] = [
     ("no-key", " of TLS without a key in the key logs (-k)"),
@@ -66,32 +71,53 @@ pub fn code_name(code: u32) -> String {
 
 /// A duration as a person says it: four digits from a second on, three below.
 pub fn time_of(nanos: Nanos) -> String {
-    for (unit, size) in UNITS {
-        if nanos < size {
-            continue;
-        }
-        let (nanos, size) = (i128::from(nanos), i128::from(size));
-        if nanos >= 100 * size {
-            return format!("{} {unit}", grouped((nanos + size / 2) / size));
-        }
-        let digits = match nanos < 10 * size {
-            true if unit == "s" => 3,
-            true => 2,
-            false => 1,
-        };
-        let power = 10_i128.pow(digits);
-        let scaled = (nanos * power + size / 2) / size;
-        let width = digits as usize;
-        let text = format!("{}.{:0width$}", scaled / power, scaled % power);
-        return format!("{} {unit}", text.trim_end_matches('0').trim_end_matches('.'));
-    }
-    format!("{nanos} ns")
+    let mut text = String::with_capacity(USUAL_TIME);
+    put_time(&mut text, nanos);
+    text
 }
 
-/// So many of these.
-pub fn count(number: u64, one: &str) -> String {
-    let many = if number == 1 { "" } else { "s" };
-    format!("{} {one}{many}", grouped(number))
+/// The same, behind a text.
+pub fn put_time(text: &mut String, nanos: Nanos) {
+    let (unit, size) = match UNITS.iter().find(|unit| nanos >= unit.1) {
+        Some((unit, size)) => (*unit, size.unsigned_abs()),
+        None => {
+            let _ = write!(text, "{nanos} ns");
+            return;
+        }
+    };
+    let nanos = nanos.unsigned_abs();
+    if nanos >= 100 * size {
+        text.push_str(&grouped((nanos + size / 2) / size));
+    } else {
+        let power = match nanos < 10 * size {
+            true if unit == "s" => 1000,
+            true => 100,
+            false => 10,
+        };
+        put_fraction(text, (nanos * power + size / 2) / size, power);
+    }
+    text.push(' ');
+    text.push_str(unit);
+}
+
+/// So many parts of which so many are a whole, without zeros at the end.
+fn put_fraction(text: &mut String, parts: u64, power: u64) {
+    put_number(text, parts / power);
+    let (mut rest, mut place) = (parts % power, power / 10);
+    if rest > 0 {
+        text.push('.');
+    }
+    while rest > 0 {
+        put_number(text, rest / place);
+        (rest, place) = (rest % place, place / 10);
+    }
+}
+
+fn put_number(text: &mut String, number: u64) {
+    if number >= 10 {
+        put_number(text, number / 10);
+    }
+    text.push(char::from(b'0' + (number % 10) as u8));
 }
 
 /// Why connections were not audited: these, as "3 connections".

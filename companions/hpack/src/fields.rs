@@ -17,11 +17,24 @@ pub enum Name {
     Protocol,
     GrpcStatus,
     GrpcMessage,
+    RequestId,
+    TraceParent,
 }
 
 impl Name {
-    pub const ALL: [Name; 7] =
-        [Name::Method, Name::Path, Name::Authority, Name::Status, Name::Protocol, Name::GrpcStatus, Name::GrpcMessage];
+    pub const ALL: [Name; 9] = [
+        Name::Method,
+        Name::Path,
+        Name::Authority,
+        Name::Status,
+        Name::Protocol,
+        Name::GrpcStatus,
+        Name::GrpcMessage,
+        Name::RequestId,
+        Name::TraceParent,
+    ];
+    /// Those that tell a request from others, wherever it goes.
+    pub const IDS: [Name; 2] = [Name::RequestId, Name::TraceParent];
     /// Of the longest of them.
     pub(crate) const MOST_BYTES: usize = 12;
 
@@ -34,6 +47,8 @@ impl Name {
             Name::Protocol => ":protocol",
             Name::GrpcStatus => "grpc-status",
             Name::GrpcMessage => "grpc-message",
+            Name::RequestId => "x-request-id",
+            Name::TraceParent => "traceparent",
         }
     }
 
@@ -46,6 +61,8 @@ impl Name {
             b":protocol" => Some(Name::Protocol),
             b"grpc-status" => Some(Name::GrpcStatus),
             b"grpc-message" => Some(Name::GrpcMessage),
+            b"x-request-id" => Some(Name::RequestId),
+            b"traceparent" => Some(Name::TraceParent),
             _ => None,
         }
     }

@@ -2,7 +2,7 @@
 
 use crate::block::Block;
 use crate::fields::Name;
-use crate::table::{FieldName, Found};
+use crate::table::{FieldName, Indexed};
 use crate::Decoder;
 
 type Field = (&'static str, &'static str);
@@ -58,7 +58,7 @@ fn check(decoder: &mut Decoder, examples: &[Example]) {
 /// The entry with this index is this field, as far as it is kept.
 fn check_entry(decoder: &Decoder, index: u64, (name, value): &Field) {
     let entry = match decoder.table.get(index) {
-        Ok(Found::Dynamic(entry)) => entry,
+        Ok(Indexed::Dynamic(entry)) => entry,
         _ => panic!("no entry {index}"),
     };
     let wanted = Name::of(name.as_bytes());

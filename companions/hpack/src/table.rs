@@ -50,30 +50,30 @@ impl Entry {
 }
 
 /// What an index stands for.
-pub enum Found<'a> {
+pub enum Indexed<'a> {
     Static(&'static Row),
     Dynamic(&'a Entry),
 }
 
-impl Found<'_> {
+impl Indexed<'_> {
     pub fn name(&self) -> FieldName {
         match self {
-            Found::Static(row) => row.name,
-            Found::Dynamic(entry) => entry.name,
+            Indexed::Static(row) => row.name,
+            Indexed::Dynamic(entry) => entry.name,
         }
     }
 
     pub fn size(&self) -> usize {
         match self {
-            Found::Static(row) => row.name.length() + row.value.len() + OVERHEAD,
-            Found::Dynamic(entry) => entry.size(),
+            Indexed::Static(row) => row.name.length() + row.value.len() + OVERHEAD,
+            Indexed::Dynamic(entry) => entry.size(),
         }
     }
 
     pub fn tell(&self, fields: &mut Fields) {
         match self {
-            Found::Dynamic(entry) => entry.tell(fields),
-            Found::Static(row) => {
+            Indexed::Dynamic(entry) => entry.tell(fields),
+            Indexed::Static(row) => {
                 if let FieldName::Wanted(name) = row.name {
                     fields.first(name, || Value::known(row.value.as_bytes()));
                 }
@@ -104,14 +104,14 @@ impl Table {
     }
 
     /// What an index stands for: entries are counted from 1, and dynamic ones follow the static ones, the newest first.
-    pub fn get(&self, index: u64) -> Result<Found<'_>, Damage> {
+    pub fn get(&self, index: u64) -> Result<Indexed<'_>, Damage> {
         let place = usize::try_from(index).ok().and_then(|index| index.checked_sub(1)).ok_or(Damage::NoEntry)?;
         if let Some(row) = ROWS.get(place) {
-            return Ok(Found::Static(row));
+            return Ok(Indexed::Static(row));
         }
         let from_the_end = place - ROWS.len() + 1;
         let entry = self.entries.len().checked_sub(from_the_end).and_then(|place| self.entries.get(place));
-        entry.map(Found::Dynamic).ok_or(Damage::NoEntry)
+        entry.map(Indexed::Dynamic).ok_or(Damage::NoEntry)
     }
 
     /// Adds an entry (4.4). One that is larger than the table only empties it.

@@ -3,10 +3,13 @@
 use std::collections::HashMap;
 use std::ffi::OsStr;
 use std::fmt::Write;
-use std::net::{Ipv4Addr, Ipv6Addr};
+use std::net::Ipv6Addr;
 use std::os::unix::ffi::OsStrExt;
 
 use captures::Ends;
+
+/// How many letters an address of IPv4 has with its port, at most.
+const LONGEST_ENDPOINT: usize = "255.255.255.255:65535".len();
 
 /// What addresses of IPv4 stand for.
 #[derive(Default)]
@@ -28,10 +31,16 @@ impl Addresses {
 
     fn endpoint(&self, address: [u8; 4], port: [u8; 2]) -> String {
         let port = u16::from_be_bytes(port);
-        match self.originals.get(&address) {
-            Some(original) => format!("[{original}]:{port}"),
-            None => format!("{}:{port}", Ipv4Addr::from(address)),
+        if let Some(original) = self.originals.get(&address) {
+            return format!("[{original}]:{port}");
         }
+        let mut text = String::with_capacity(LONGEST_ENDPOINT);
+        for (number, behind) in address.iter().zip("...:".chars()) {
+            text.push_str(itoa::Buffer::new().format(*number));
+            text.push(behind);
+        }
+        text.push_str(itoa::Buffer::new().format(port));
+        text
     }
 }
 

@@ -6,10 +6,12 @@ use std::collections::HashMap;
 use captures::{flags, made_headers, swapped, Ends, Segment, MADE_HEADERS};
 use joined::is_first_of_server;
 
+use crate::ends_hashing::EndsHashing;
+
 /// By the ends of what the client sends.
 #[derive(Default)]
 pub struct Answers {
-    waiting: HashMap<Ends, Waiting>,
+    waiting: HashMap<Ends, Waiting, EndsHashing>,
 }
 
 struct Waiting {
@@ -20,6 +22,12 @@ struct Waiting {
 }
 
 impl Answers {
+    /// Whether no SYN waits for its answer.
+    #[inline]
+    pub fn is_empty(&self) -> bool {
+        self.waiting.is_empty()
+    }
+
     /// Takes a segment, and answers the SYN ACK that is missing before it.
     pub fn take(&mut self, segment: &Segment<'_>) -> Option<[u8; MADE_HEADERS]> {
         let both = flags::SYN | flags::ACK;

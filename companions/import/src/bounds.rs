@@ -1,9 +1,13 @@
 //! How far is searched for what opens connections of TLS 1.3 whose hellos were not captured, and what is said where that
 //! was not enough.
 
+use joined::Unjoined;
 use tls::{Reason, Search};
 
+use crate::budget::MOST_WAITING;
 use crate::outcomes::{Became, End, Fate, NotJoined, Outcome, Summary, Unopened};
+
+const MEBIBYTES: usize = MOST_WAITING >> 20;
 
 /// For all connections together, as [`Search`] has it.
 #[derive(Clone, Copy, Debug)]
@@ -36,8 +40,17 @@ impl Bounds {
             let many = if count == 1 { "" } else { "s" };
             format!("{count} connection{many} of TLS from before the capture not wholly opened {how}")
         });
-        said.collect()
+        said.chain(given_up(summary)).collect()
     }
+}
+
+/// What is said of those that were given up, since too much waited of all together.
+fn given_up(summary: &Summary) -> Option<String> {
+    let fates = summary.unopened.iter().map(|pair| pair.fate).chain(summary.gaps.iter().map(|gap| gap.fate));
+    let is_given_up = |fate: &Fate| *fate == Fate::Unjoined(NotJoined::Frames(Unjoined::ManyWaiting));
+    let count = fates.filter(is_given_up).count();
+    let many = if count == 1 { "" } else { "s" };
+    (count > 0).then(|| format!("{count} connection{many} not joined, since more than {MEBIBYTES} MiB of all waited"))
 }
 
 /// How many connections that began before the capture, or a side of theirs, were not opened for this reason.

@@ -7,7 +7,7 @@ use std::path::{Path, PathBuf};
 use captures::{Error, Item, Reader, Source};
 use programs::{end_cleanly, is_special, print, printable, say, Failure, Outcome, Output};
 
-use crate::importing::{imported, Asked};
+use crate::importing::{imported, ImportOptions};
 use crate::map_file::MapFile;
 use crate::outcomes::Summary;
 use crate::sink::Sink;
@@ -77,7 +77,7 @@ fn made(asked: &Import, files: &[OsString], output: &mut Output, map: Option<&mu
     let mut sink = Sink::new(output, &mut map)?;
     let Import { key_logs, is_reordered, is_joined, bounds, .. } = asked;
     let (is_reordered, is_joined, bounds) = (*is_reordered, *is_joined, *bounds);
-    let asked = Asked { program: NAME, files, key_logs, is_reordered, is_joined, bounds, can_repeat };
+    let asked = ImportOptions { program: NAME, files, key_logs, is_reordered, is_joined, bounds, can_repeat };
     imported(&asked, &mut sink, None)
 }
 

@@ -7,10 +7,11 @@
 use captures::{flags, placed, swapped, Arrival, Ends, Flow, HeldSegment, Segment, MOST_HELD};
 use tls::{looks_like_tls, Known, Shared, CLIENT, SERVER};
 
+use crate::common::{Came, Common};
 use crate::listener::{Sender, Written};
 use crate::outcomes::{Became, Outcome};
 use crate::plaintext::{became, Later, Numbers, Plain};
-use crate::preamble::{look, Found, Preamble};
+use crate::preamble::{look, Looked, Preamble};
 use crate::shifted::Shift;
 use crate::sink::Sink;
 
@@ -22,13 +23,20 @@ struct Arrived {
     is_made: bool,
 }
 
+impl Arrived {
+    /// It came with that segment.
+    fn came<'a, 'b>(&self, segment: &'a Segment<'b>) -> Came<'a, 'b> {
+        Came { arrival: self.arrival, side: self.side, segment }
+    }
+}
+
 /// What is known of a connection's bytes.
 enum Mode {
     Undecided(Option<Box<Undecided>>),
     Clear,
     /// In the clear, behind a preamble.
     Behind(Box<Shift>),
-    Tls(Box<tls::Connection>),
+    Tls(Box<tls::TlsConnection>),
 }
 
 /// All segments behind the openings, until the first bytes tell.
@@ -47,7 +55,7 @@ enum Verdict {
 }
 
 /// An opening with all segments that belong to it.
-pub struct Connection {
+pub struct FollowedConnection {
     opening: u64,
     numbers: Numbers,
     mode: Mode,
@@ -63,10 +71,10 @@ pub struct Connection {
     pub is_listed: bool,
 }
 
-impl Connection {
+impl FollowedConnection {
     /// Of this number, which counts from 0 on.
-    pub fn new(number: usize, arrival: Arrival, segment: &Segment<'_>) -> Connection {
-        Connection {
+    pub fn new(number: usize, arrival: Arrival, segment: &Segment<'_>) -> FollowedConnection {
+        FollowedConnection {
             opening: arrival.packet,
             numbers: Numbers {
                 connection: number,
@@ -118,37 +126,31 @@ impl Connection {
         matches!(self.mode, Mode::Tls(_))
     }
 
-    fn tls(&self) -> Option<&tls::Connection> {
+    fn tls(&self) -> Option<&tls::TlsConnection> {
         match &self.mode {
             Mode::Tls(tls) => Some(tls),
             _ => None,
         }
     }
 
-    pub fn take(
-        &mut self,
-        shared: &mut Shared,
-        sink: &mut Sink<'_>,
-        arrival: Arrival,
-        side: usize,
-        segment: &Segment<'_>,
-    ) {
+    pub fn take(&mut self, common: &mut Common<'_, '_>, came: &Came<'_, '_>) {
+        let Came { arrival, side, segment } = *came;
         let both = flags::SYN | flags::ACK;
         let is_answer = side == SERVER && segment.flags & both == both && self.numbers.initial[SERVER].is_none();
         if is_answer {
             self.numbers.initial[SERVER] = Some(segment.sequence);
         }
         match &self.mode {
-            Mode::Undecided(_) => self.take_undecided(shared, sink, arrival, side, segment, is_answer),
-            Mode::Clear | Mode::Behind(_) => self.emit(sink, arrival, side, segment),
+            Mode::Undecided(_) => self.take_undecided(common, came, is_answer),
+            Mode::Clear | Mode::Behind(_) => self.emit(common.sink, came),
             Mode::Tls(_) if is_answer => {
-                sink.emit(arrival, self.sender(side), Written::headers(segment, &mut Vec::new()));
+                common.sink.emit(arrival, self.sender(side), Written::headers(segment, &mut Vec::new()));
                 for one in std::mem::take(&mut self.held) {
-                    self.take_tls(shared, sink, one.arrival, one.side, &one.segment.segment());
+                    self.take_tls(common, &one.came(&one.segment.segment()));
                 }
-                self.take_tls(shared, sink, arrival, side, segment);
+                self.take_tls(common, came);
             }
-            Mode::Tls(_) => self.take_tls(shared, sink, arrival, side, segment),
+            Mode::Tls(_) => self.take_tls(common, came),
         }
     }
 
@@ -160,7 +162,8 @@ impl Connection {
     }
 
     /// Writes a segment in the clear.
-    fn emit(&self, sink: &mut Sink<'_>, arrival: Arrival, side: usize, segment: &Segment<'_>) {
+    fn emit(&self, sink: &mut Sink<'_>, came: &Came<'_, '_>) {
+        let Came { arrival, side, segment } = *came;
         let mut room = Vec::new();
         let written = match &self.mode {
             Mode::Behind(shift) => shift.written(side, segment, &self.numbers.initial, &mut room),
@@ -171,15 +174,8 @@ impl Connection {
 
     // Undecided
 
-    fn take_undecided(
-        &mut self,
-        shared: &mut Shared,
-        sink: &mut Sink<'_>,
-        arrival: Arrival,
-        side: usize,
-        segment: &Segment<'_>,
-        is_answer: bool,
-    ) {
+    fn take_undecided(&mut self, common: &mut Common<'_, '_>, came: &Came<'_, '_>, is_answer: bool) {
+        let Came { arrival, side, segment } = *came;
         self.is_snapped |= segment.is_snapped;
         let is_syn = segment.flags & flags::SYN != 0;
         let begun = match &mut self.mode {
@@ -187,18 +183,18 @@ impl Connection {
             _ => None,
         };
         if begun.is_none() && is_syn && !segment.has_payload() {
-            self.emit(sink, arrival, side, segment);
+            self.emit(common.sink, came);
             return;
         }
         let mut undecided = begun.unwrap_or_default();
         undecided.cost += segment.datagram_length();
-        undecided.held.push(Arrived { arrival, side, segment: segment.held(), is_made: sink.is_made });
+        undecided.held.push(Arrived { arrival, side, segment: segment.held(), is_made: common.sink.is_made });
         // The answer places what its server sent before it; one that is repeated places nothing new.
         let from = if is_answer { 0 } else { undecided.held.len() - 1 };
         match self.look_at(&mut undecided, side, from) {
             Verdict::Wait if undecided.cost <= MOST_HELD => self.mode = Mode::Undecided(Some(undecided)),
-            Verdict::Wait | Verdict::Clear => self.go_on_clear(sink, undecided.held),
-            Verdict::Tls => self.go_on_tls(shared, sink, undecided.held),
+            Verdict::Wait | Verdict::Clear => self.go_on_clear(common.sink, undecided.held),
+            Verdict::Tls => self.go_on_tls(common, undecided.held),
         }
     }
 
@@ -223,15 +219,15 @@ impl Connection {
 
     fn verdict(&mut self, begun: &[Vec<u8>; 2]) -> Verdict {
         let lengths = match look(&begun[CLIENT], &begun[SERVER]) {
-            Found::Maybe => return Verdict::Wait,
-            Found::No => [0, 0],
-            Found::Yes(preamble) => preamble.lengths,
+            Looked::Maybe => return Verdict::Wait,
+            Looked::No => [0, 0],
+            Looked::Yes(preamble) => preamble.lengths,
         };
         let [client, server] = [CLIENT, SERVER].map(|side| &begun[side][lengths[side] as usize..]);
         if client.is_empty() && server.is_empty() {
             return Verdict::Wait;
         }
-        if let Found::Yes(preamble) = look(&begun[CLIENT], &begun[SERVER]) {
+        if let Looked::Yes(preamble) = look(&begun[CLIENT], &begun[SERVER]) {
             self.preamble = Some(preamble);
         }
         let is_tls = if client.is_empty() { looks_like_tls(server, true) } else { looks_like_tls(client, false) };
@@ -250,36 +246,30 @@ impl Connection {
         let is_made = sink.is_made;
         for one in &held {
             sink.is_made = one.is_made;
-            self.emit(sink, one.arrival, one.side, &one.segment.segment());
+            self.emit(sink, &one.came(&one.segment.segment()));
         }
         sink.is_made = is_made;
     }
 
-    fn go_on_tls(&mut self, shared: &mut Shared, sink: &mut Sink<'_>, held: Vec<Arrived>) {
-        self.mode = Mode::Tls(Box::new(tls::Connection::new(self.number() as u64, shared)));
-        let is_made = sink.is_made;
+    fn go_on_tls(&mut self, common: &mut Common<'_, '_>, held: Vec<Arrived>) {
+        self.mode = Mode::Tls(Box::new(tls::TlsConnection::new(self.number() as u64, common.shared)));
+        let is_made = common.sink.is_made;
         for one in held {
             let segment = one.segment.segment();
-            sink.is_made = one.is_made;
+            common.sink.is_made = one.is_made;
             if segment.flags & flags::SYN != 0 {
-                sink.emit(one.arrival, self.sender(one.side), Written::headers(&segment, &mut Vec::new()));
+                common.sink.emit(one.arrival, self.sender(one.side), Written::headers(&segment, &mut Vec::new()));
             }
-            sink.is_made = false;
-            self.take_tls(shared, sink, one.arrival, one.side, &segment);
+            common.sink.is_made = false;
+            self.take_tls(common, &one.came(&segment));
         }
-        sink.is_made = is_made;
+        common.sink.is_made = is_made;
     }
 
     // TLS
 
-    fn take_tls(
-        &mut self,
-        shared: &mut Shared,
-        sink: &mut Sink<'_>,
-        arrival: Arrival,
-        side: usize,
-        segment: &Segment<'_>,
-    ) {
+    fn take_tls(&mut self, common: &mut Common<'_, '_>, came: &Came<'_, '_>) {
+        let Came { arrival, side, segment } = *came;
         self.has_client_ended |= side == CLIENT && segment.flags & (flags::FIN | flags::RST) != 0;
         let initial = self.numbers.initial[side];
         if let Some(initial) = initial.filter(|_| segment.flags & flags::FIN != 0) {
@@ -293,13 +283,13 @@ impl Connection {
         }
         self.is_snapped |= segment.is_snapped;
         if initial.is_none() {
-            self.hold(arrival, side, segment);
+            self.hold(came);
             return;
         }
         let placed = self.placed(side, segment);
         if let (Some((offset, data)), Mode::Tls(tls)) = (placed, &mut self.mode) {
-            let mut plain = Plain { numbers: &mut self.numbers, sink };
-            tls.segment(shared, &mut plain, side, offset, data, arrival);
+            let mut plain = Plain { numbers: &mut self.numbers, sink: common.sink };
+            tls.segment(common.shared, &mut plain, side, offset, data, arrival);
         }
     }
 
@@ -320,7 +310,7 @@ impl Connection {
     /// Whether its end would write nothing, and no more is known to be missing.
     pub fn is_quiet(&self) -> bool {
         let is_whole =
-            |tls: &tls::Connection, side: usize| tls.side(side).end().is_none() && !tls.side(side).flow().has_hole();
+            |tls: &tls::TlsConnection, side: usize| tls.side(side).end().is_none() && !tls.side(side).flow().has_hole();
         self.tls().map_or(false, |tls| {
             !tls.is_waiting()
                 && self.numbers.initial[SERVER].is_some()
@@ -346,14 +336,15 @@ impl Connection {
     }
 
     /// Goes on with what waited for keys.
-    pub fn advance(&mut self, shared: &mut Shared, sink: &mut Sink<'_>) {
+    pub fn advance(&mut self, common: &mut Common<'_, '_>) {
         if let Mode::Tls(tls) = &mut self.mode {
-            tls.advance(shared, &mut Plain { numbers: &mut self.numbers, sink });
+            tls.advance(common.shared, &mut Plain { numbers: &mut self.numbers, sink: common.sink });
         }
     }
 
     /// Keeps what cannot be placed before the server's SYN ACK; past a limit that is not waited for.
-    fn hold(&mut self, arrival: Arrival, side: usize, segment: &Segment<'_>) {
+    fn hold(&mut self, came: &Came<'_, '_>) {
+        let Came { arrival, side, segment } = *came;
         self.cost += segment.datagram_length();
         if self.cost <= MOST_HELD {
             self.held.push(Arrived { arrival, side, segment: segment.held(), is_made: false });
@@ -364,11 +355,26 @@ impl Connection {
 
     // The end
 
+    /// What its records go on with behind a gap, of TLS that has one and is joined.
+    pub fn take_tls_with_gap(&mut self, is_joining: bool) -> Option<Box<tls::TlsConnection>> {
+        let has_gap = |tls: &tls::TlsConnection| [CLIENT, SERVER].iter().any(|side| tls.side(*side).flow().has_hole());
+        match std::mem::replace(&mut self.mode, Mode::Undecided(None)) {
+            Mode::Tls(mut tls) if is_joining && has_gap(&tls) => {
+                tls.let_go();
+                Some(tls)
+            }
+            mode => {
+                self.mode = mode;
+                None
+            }
+        }
+    }
+
     /// Ends the connection with the capture, and says what became of it.
-    pub fn finish(&mut self, shared: &mut Shared, sink: &mut Sink<'_>) -> Outcome {
+    pub fn finish(&mut self, common: &mut Common<'_, '_>) -> Outcome {
         if let Mode::Undecided(undecided) = &mut self.mode {
             let held = undecided.take().map_or_else(Vec::new, |undecided| undecided.held);
-            self.go_on_clear(sink, held);
+            self.go_on_clear(common.sink, held);
         }
         let became = match &mut self.mode {
             Mode::Tls(tls) => {
@@ -377,8 +383,8 @@ impl Connection {
                     has_answer: self.numbers.initial[SERVER].is_some(),
                     has_client_ended: self.has_client_ended,
                 };
-                let mut plain = Plain { numbers: &mut self.numbers, sink };
-                tls.finish(shared, &mut plain, &known);
+                let mut plain = Plain { numbers: &mut self.numbers, sink: common.sink };
+                tls.finish(common.shared, &mut plain, &known);
                 let (became, lost) = became(tls, plain.numbers.sent);
                 plain.lose(lost);
                 became

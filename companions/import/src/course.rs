@@ -18,15 +18,15 @@ pub const NEVER: i64 = i64::MAX;
 /// The connections of a capture, which are told from each other as h2audit does. An import fills it.
 #[derive(Default)]
 pub struct Courses {
-    /// In the order of openings.
-    pub connections: Vec<Course>,
+    /// In the order of openings; none where its course was taken.
+    pub connections: Vec<Option<Box<TcpCourse>>>,
     /// What is known of each, until the end.
     tracked: Vec<Tracked>,
 }
 
 /// What TCP did on one connection.
 #[derive(Debug)]
-pub struct Course {
+pub struct TcpCourse {
     /// The SYN that opened it.
     pub syn: Arrival,
     /// The server's first SYN ACK, and the client's first ACK behind it.
@@ -120,18 +120,23 @@ impl Courses {
     pub(crate) fn take(&mut self, taken: &Taken, arrival: Arrival, segment: &Segment<'_>) {
         let Taken { sender: Sender { connection, side }, opens } = *taken;
         if opens {
-            self.connections.push(Course::of(arrival));
-            self.tracked.push(Tracked::default());
+            self.open(arrival);
         }
-        self.tracked[connection].take(&mut self.connections[connection], side, arrival, segment);
+        if let Some(course) = &mut self.connections[connection] {
+            self.tracked[connection].take(course, side, arrival, segment);
+        }
+    }
+
+    fn open(&mut self, arrival: Arrival) {
+        self.connections.push(Some(Box::new(TcpCourse::of(arrival))));
+        self.tracked.push(Tracked::default());
     }
 
     /// Takes a segment that was made up: it opens a connection, and says behind which number its side begins.
     pub(crate) fn made(&mut self, taken: &Taken, arrival: Arrival, segment: &Segment<'_>) {
         let Taken { sender: Sender { connection, side }, opens } = *taken;
         if opens {
-            self.connections.push(Course::of(arrival));
-            self.tracked.push(Tracked::default());
+            self.open(arrival);
         }
         self.tracked[connection].begin_behind(side, segment);
     }
@@ -145,15 +150,17 @@ impl Courses {
 
     /// Takes the end of the capture.
     pub(crate) fn finish(&mut self) {
-        for (tracked, course) in std::mem::take(&mut self.tracked).into_iter().zip(&mut self.connections) {
-            tracked.finish(course);
+        for (tracked, course) in std::mem::take(&mut self.tracked).iter().zip(&mut self.connections) {
+            if let Some(course) = course {
+                tracked.finish(course);
+            }
         }
     }
 }
 
-impl Course {
-    fn of(syn: Arrival) -> Course {
-        Course {
+impl TcpCourse {
+    fn of(syn: Arrival) -> TcpCourse {
+        TcpCourse {
             syn,
             syn_ack: None,
             ack: None,

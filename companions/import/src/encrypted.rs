@@ -3,20 +3,20 @@
 
 use std::io;
 
-use captures::{flags, made_headers, placed, swapped, Arrival, Ends, Segment, END_OF_OFFSETS, MADE_HEADERS};
+use captures::{flags, made_headers, placed, swapped, Arrival, Ends, Segment, END_OF_OFFSETS};
 use joined::{Joiner, Piece};
 use tls::{Emit, Known, Reason, Shared};
 
 use crate::outcomes::Became;
 use crate::plaintext::{became, PUSH_AND_ACK};
-use crate::waiting::Kept;
+use crate::waiting::{Kept, Known as Datagram, Source};
 
 /// The number of the first byte of plaintext.
 const FIRST: u32 = 1;
 
 /// By the flow that sends: 0 is that of the connection's first segment.
 pub struct Encrypted {
-    tls: tls::Connection,
+    tls: tls::TlsConnection,
     ends: [Ends; 2],
     /// The number before the first byte that was captured.
     initial: [Option<u32>; 2],
@@ -43,6 +43,7 @@ impl Emit for Batch {
 }
 
 /// What is known of a connection whose plaintext was written, by client and server.
+#[derive(Clone)]
 pub struct Decrypted {
     pub became: Became,
     /// Its last packet.
@@ -51,9 +52,9 @@ pub struct Decrypted {
     pub initial: [Option<u32>; 2],
 }
 
-/// A pair of endpoints, and where what it says is kept.
+/// Whose plaintext it is, and where it is kept.
 pub struct Out<'a> {
-    pub pair: usize,
+    pub source: Source,
     pub kept: &'a mut Kept,
 }
 
@@ -61,7 +62,7 @@ impl Encrypted {
     /// Of a pair whose first segment is this one, and has such ends.
     pub fn new(pair: usize, shared: &Shared, first: Arrival, ends: Ends) -> Encrypted {
         Encrypted {
-            tls: tls::Connection::from_middle(pair as u64, shared),
+            tls: tls::TlsConnection::from_middle(pair as u64, shared),
             ends: [ends, swapped(&ends)],
             initial: [None; 2],
             sent: [0; 2],
@@ -69,6 +70,31 @@ impl Encrypted {
             last: first,
             batch: Batch::default(),
         }
+    }
+
+    /// What follows a gap of such a connection, from these numbers of its flows on.
+    pub fn behind(tls: tls::TlsConnection, first: Arrival, ends: Ends, starts: [u32; 2]) -> Encrypted {
+        Encrypted {
+            tls,
+            ends: [ends, swapped(&ends)],
+            initial: starts.map(|start| Some(start.wrapping_sub(1))),
+            sent: [0; 2],
+            is_snapped: false,
+            last: first,
+            batch: Batch::default(),
+        }
+    }
+
+    /// How many bytes wait.
+    pub fn waiting(&self) -> usize {
+        self.tls.waiting() + self.batch.bytes.len()
+    }
+
+    /// What its records go on with behind a gap.
+    pub fn into_tls(self) -> Box<tls::TlsConnection> {
+        let mut tls = Box::new(self.tls);
+        tls.let_go();
+        tls
     }
 
     /// Whether secrets open its records.
@@ -133,8 +159,10 @@ impl Encrypted {
     }
 
     fn keep(&self, flow: usize, later: u32, payload: &[u8], arrival: Arrival, out: &mut Out<'_>) -> io::Result<()> {
-        let headers = made_headers(&self.ends[flow], self.numbers(flow, later), PUSH_AND_ACK, payload.len());
-        out.kept.keep(out.pair, arrival, true, [&headers, payload], (MADE_HEADERS + payload.len()) as u32)
+        let numbers = self.numbers(flow, later);
+        let headers = made_headers(&self.ends[flow], numbers, PUSH_AND_ACK, payload.len());
+        let known = Datagram { source: out.source, flow, arrival, is_plaintext: true, place: None };
+        out.kept.keep_bytes(&known, (headers.len() + payload.len()) as u32, [&headers, payload])
     }
 
     /// What became of it. Where bytes were lost, one past the hole makes h2audit say so.

@@ -10,9 +10,25 @@ use crate::encrypted::{Decrypted, Encrypted, Out};
 use crate::outcomes::NotJoined;
 
 /// A connection that is joined, and what became of its records where it is encrypted.
-pub struct Found {
+pub struct JoinedFlows {
     pub joined: Joined,
     pub decrypted: Option<Decrypted>,
+}
+
+/// What became of one that was followed, and what its records go on with behind a gap.
+pub struct Ended {
+    pub became: Result<JoinedFlows, NotJoined>,
+    pub tls: Option<Box<tls::TlsConnection>>,
+}
+
+/// Where a connection goes on behind a gap.
+pub struct Going {
+    pub first: Arrival,
+    /// Of the first flow.
+    pub ends: Ends,
+    pub starts: [u32; 2],
+    /// Whose flow is the client's, if that is known.
+    pub client: Option<usize>,
 }
 
 pub struct Followed {
@@ -31,7 +47,24 @@ impl Followed {
         Followed { joiner: Joiner::new(first, ends), encrypted, in_the_clear: None, refused: None }
     }
 
+    /// What goes on behind a gap; of TLS, what its records go on with.
+    pub fn behind(going: &Going, tls: Option<tls::TlsConnection>) -> Followed {
+        let Going { first, ends, starts, client } = *going;
+        let mut joiner = Joiner::behind(first, ends, starts, client);
+        let in_the_clear = tls.is_some().then_some(Unjoined::Tls);
+        tls.iter().for_each(|_| joiner.encrypted());
+        let encrypted = tls.map(|tls| Encrypted::behind(tls, first, ends, starts));
+        Followed { joiner, encrypted, in_the_clear, refused: None }
+    }
+
+    /// How many bytes wait.
+    #[inline]
+    pub fn waiting(&self) -> usize {
+        self.joiner.waiting() + self.encrypted.as_ref().map_or(0, Encrypted::waiting)
+    }
+
     /// Takes a segment of a flow: 0 is that of the first segment.
+    #[inline(always)] // most segments are of connections in the clear, and go to what joins them alone
     pub fn take(
         &mut self,
         shared: &mut Shared,
@@ -40,6 +73,21 @@ impl Followed {
         out: &mut Out<'_>,
     ) -> io::Result<()> {
         self.joiner.take(flow, &piece_of(arrival, segment));
+        match self.encrypted {
+            None => Ok(()),
+            Some(_) => self.take_encrypted(shared, flow, (arrival, segment), out),
+        }
+    }
+
+    /// Takes a segment of what may be TLS.
+    #[inline(never)]
+    fn take_encrypted(
+        &mut self,
+        shared: &mut Shared,
+        flow: usize,
+        (arrival, segment): (Arrival, &Segment<'_>),
+        out: &mut Out<'_>,
+    ) -> io::Result<()> {
         self.look_in_the_clear();
         if let Some(encrypted) = &mut self.encrypted {
             encrypted.take(shared, flow, arrival, segment);
@@ -79,6 +127,7 @@ impl Followed {
     }
 
     /// Why it cannot be joined, whatever follows.
+    #[inline]
     pub fn over(&self) -> Option<NotJoined> {
         match &self.encrypted {
             None => self.in_the_clear.or_else(|| self.joiner.over()).map(|why| self.named(why)),
@@ -93,7 +142,7 @@ impl Followed {
     }
 
     /// What its segments tell, all of which came.
-    pub fn finish(mut self, shared: &mut Shared, out: &mut Out<'_>) -> io::Result<Result<Found, NotJoined>> {
+    pub fn finish(mut self, shared: &mut Shared, out: &mut Out<'_>) -> io::Result<Ended> {
         if let Some(encrypted) = &mut self.encrypted {
             encrypted.finish(shared);
         }
@@ -101,7 +150,8 @@ impl Followed {
         if let Some(encrypted) = self.encrypted.take().filter(Encrypted::is_opened) {
             let decrypted = encrypted.decrypted(out)?;
             let joined = self.joiner.finish().map_err(NotJoined::Frames);
-            return Ok(joined.map(|joined| Found { joined, decrypted: Some(decrypted) }));
+            let became = joined.map(|joined| JoinedFlows { joined, decrypted: Some(decrypted) });
+            return Ok(Ended { became, tls: Some(encrypted.into_tls()) });
         }
         let joined = match self.in_the_clear {
             Some(why) => Err(self.named(why)),
@@ -110,10 +160,11 @@ impl Followed {
                 self.joiner.finish().map_err(|why| refused.map_or(NotJoined::Frames(why), NotJoined::Tls))
             }
         };
-        Ok(joined.map(|joined| Found { joined, decrypted: None }))
+        Ok(Ended { became: joined.map(|joined| JoinedFlows { joined, decrypted: None }), tls: None })
     }
 }
 
+#[inline]
 fn piece_of<'a>(arrival: Arrival, segment: &Segment<'a>) -> Piece<'a> {
     let Segment { sequence, acknowledgement, flags, identification, .. } = *segment;
     let acknowledgement = (flags & flags::ACK != 0).then_some(acknowledgement);

@@ -5,16 +5,17 @@ mod join;
 use std::collections::HashMap;
 use std::ffi::{OsStr, OsString};
 use std::fs::File;
-use std::time::Instant;
 
 use captures::{
-    pcapng, Arrival, Decoder, Ends, Error, Fragment, Item, Packet, PassedOver, Reader, Source, STANDARD_INPUT,
+    pcapng, Arrival, Decoder, Ends, Error, Fragment, Item, Packet, PassedOver, Reader, Refusal, Segment, Source,
+    STANDARD_INPUT,
 };
-use programs::{printable, say, Failure, Progress};
-use reports::{grouped, Capture};
+use programs::{is_typed, printable, say, Failure, Progress};
+use reports::{count, Capture};
 use tls::Shared;
 
 use crate::bounds::Bounds;
+use crate::common::Common;
 use crate::course::Courses;
 use crate::joining::Joining;
 use crate::others::Others;
@@ -25,11 +26,11 @@ use crate::table::Table;
 
 /// Datagrams whose fragments are known to be of some connection.
 const MOST_FRAGMENTED: usize = 1 << 12;
-/// So often it is looked whether something went wrong in writing, and how far the work is.
+/// So often it is looked whether something went wrong in writing.
 const MOST_BETWEEN_LOOKS: u64 = 0x3FF;
 
 /// What is imported.
-pub struct Asked<'a> {
+pub struct ImportOptions<'a> {
     pub program: &'a str,
     /// In the order in which they are read; standard input where there is none.
     pub files: &'a [OsString],
@@ -46,37 +47,44 @@ pub struct Asked<'a> {
 
 /// Reads all files into the sink; once more where the sessions in them show secrets for more connections. What was
 /// passed over of files and key logs is said on standard error. What TCP did is noted where that is asked for.
-pub fn imported(asked: &Asked<'_>, sink: &mut Sink<'_>, mut courses: Option<&mut Courses>) -> Result<Summary, Failure> {
+pub fn imported(
+    asked: &ImportOptions<'_>,
+    sink: &mut Sink<'_>,
+    mut courses: Option<&mut Courses>,
+) -> Result<Summary, Failure> {
     let standard = [OsString::from(STANDARD_INPUT)];
     let files = if asked.files.is_empty() { &standard[..] } else { asked.files };
     let mut shared = Shared::default();
     shared.search = asked.bounds.search();
     read_keys(asked, files, &mut shared)?;
     shared.keys.waits_for_sessions = shared.more_keys || !asked.can_repeat;
-    let (mut summary, missed) = read_through(asked, files, &mut shared, sink, courses.as_deref_mut(), true)?;
+    let mut common = Common { shared: &mut shared, sink };
+    let (mut summary, missed) = read_through(asked, files, common.lent(), courses.as_deref_mut(), true)?;
     if !missed.is_empty() {
-        sink.begin_anew()?;
-        shared.sessions = Default::default();
-        shared.search = asked.bounds.search();
-        shared.keys.add_text(&missed);
-        summary = read_through(asked, files, &mut shared, sink, courses, false)?.0;
+        common.sink.begin_anew()?;
+        common.shared.sessions = Default::default();
+        common.shared.search = asked.bounds.search();
+        common.shared.keys.add_text(&missed);
+        summary = read_through(asked, files, common, courses, false)?.0;
     }
     asked.bounds.said(&summary).iter().for_each(|words| say(asked.program, words));
     Ok(summary)
 }
 
 /// The keys that are known before the capture is read, and whether more may come in it.
-fn read_keys(asked: &Asked<'_>, files: &[OsString], shared: &mut Shared) -> Result<(), Failure> {
+fn read_keys(asked: &ImportOptions<'_>, files: &[OsString], shared: &mut Shared) -> Result<(), Failure> {
     for path in asked.key_logs {
         let read = File::open(path).and_then(|file| shared.keys.read(file));
         read.map_err(|error| Failure::of_file(path, &error))?;
     }
+    let _looking = Progress::begin(asked.program, "looking for keys", bytes_of(files));
     for path in files {
         if !Source::can_be_read_twice(path).map_err(|error| Failure::of_file(path, &error))? {
             shared.more_keys = true;
             continue;
         }
-        let scanned = Source::open(path).and_then(|mut source| match source.fill(4)? == pcapng::MAGIC {
+        let opened = Source::open_counted(path, Progress::add);
+        let scanned = opened.and_then(|mut source| match source.fill(4)? == pcapng::MAGIC {
             true => pcapng::secrets_in(source, |text| drop(shared.keys.add_text(text))),
             false => Ok(()),
         });
@@ -87,16 +95,16 @@ fn read_keys(asked: &Asked<'_>, files: &[OsString], shared: &mut Shared) -> Resu
     }
     let bad = shared.keys.bad_lines;
     if bad > 0 {
-        say(asked.program, &format!("{bad} lines of the key logs are none, and were passed over"));
+        let (are, were) = if bad == 1 { ("is no secret", "was") } else { ("are no secrets", "were") };
+        say(asked.program, &format!("{} of the key logs {are}, and {were} passed over", count(bad, "line")));
     }
     Ok(())
 }
 
 fn read_through(
-    asked: &Asked<'_>,
+    asked: &ImportOptions<'_>,
     files: &[OsString],
-    shared: &mut Shared,
-    sink: &mut Sink<'_>,
+    common: Common<'_, '_>,
     courses: Option<&mut Courses>,
     is_first: bool,
 ) -> Result<(Summary, Vec<u8>), Failure> {
@@ -105,17 +113,30 @@ fn read_through(
         courses
     });
     let reorder = asked.is_reordered.then(Reorder::default);
-    let mut importer = Importer::new(shared, sink, courses, reorder, Progress::since(asked.program, Instant::now()));
+    let mut importer = Importer::new(common, courses, reorder);
     importer.joining = asked.is_joined.then(Joining::default);
+    importer.table.is_joining = asked.is_joined;
+    let is_waited_for = files.iter().any(|path| path == STANDARD_INPUT) && is_typed();
+    let doing = if is_first { "reading" } else { "reading once more" };
+    let reading = (!is_waited_for).then(|| Progress::begin(asked.program, doing, bytes_of(files)));
     for path in files {
+        if path == STANDARD_INPUT && is_first && is_waited_for {
+            say(asked.program, "a capture is read from standard input: tcpdump -w - | .., or --help");
+        }
         let has_bytes_behind = importer.file(path).map_err(|problem| problem.failure(Some(path)))?;
         if has_bytes_behind && is_first {
             let path = printable(path);
             say(asked.program, &format!("{path}: bytes behind the end of what gzip packed were passed over"));
         }
     }
-    let (summary, missed) = importer.finish().map_err(|problem| problem.failure(None))?;
-    Ok((summary, missed))
+    drop(reading);
+    let _finishing = Progress::begin(asked.program, "finishing", None);
+    importer.finish().map_err(|problem| problem.failure(None))
+}
+
+/// How many bytes all files have, if that is known.
+fn bytes_of(files: &[OsString]) -> Option<u64> {
+    files.iter().map(|path| Source::size(path).ok().flatten()).sum()
 }
 
 /// What ends the work early.
@@ -130,28 +151,36 @@ impl From<Error> for Early {
     }
 }
 
+impl From<Failure> for Early {
+    fn from(failure: Failure) -> Early {
+        Early::Problem(Problem::Failed(failure))
+    }
+}
+
 impl Early {
     fn failure(self, path: Option<&OsString>) -> Failure {
-        let named = path.map_or(String::new(), |path| format!(": {}", printable(path)));
         match self {
-            Early::Capture(Error::Refused(name)) => Failure::Refused(format!("capture refused: {name}{named}")),
+            Early::Capture(Error::Refused(refusal)) => Failure::Refused(refused(&refusal, path)),
             Early::Capture(Error::Io(error)) => match path {
                 Some(path) if path != STANDARD_INPUT => Failure::of_file(path, &error),
                 _ => Failure::from_io("standard input", &error),
             },
-            Early::Problem(Problem::BadTime) => Failure::Refused(format!("capture refused: bad-time{named}")),
+            Early::Problem(Problem::BadTime) => Failure::Refused(refused(&Refusal::named("bad-time"), path)),
             Early::Problem(Problem::Failed(failure)) => failure,
         }
     }
 }
 
+/// What is said of a capture that is refused, with the file where it is known.
+fn refused(refusal: &Refusal, path: Option<&OsString>) -> String {
+    path.map_or_else(|| refusal.to_string(), |path| refusal.of_file(&printable(path)))
+}
+
 /// Takes files, and hands their segments to the table of connections.
 struct Importer<'a, 'b> {
-    shared: &'a mut Shared,
-    sink: &'a mut Sink<'b>,
+    common: Common<'a, 'b>,
     courses: Option<&'a mut Courses>,
     reorder: Option<Reorder>,
-    progress: Progress,
     decoder: Decoder,
     table: Table,
     /// How many were read.
@@ -166,19 +195,11 @@ struct Importer<'a, 'b> {
 }
 
 impl<'a, 'b> Importer<'a, 'b> {
-    fn new(
-        shared: &'a mut Shared,
-        sink: &'a mut Sink<'b>,
-        courses: Option<&'a mut Courses>,
-        reorder: Option<Reorder>,
-        progress: Progress,
-    ) -> Importer<'a, 'b> {
+    fn new(common: Common<'a, 'b>, courses: Option<&'a mut Courses>, reorder: Option<Reorder>) -> Importer<'a, 'b> {
         Importer {
-            shared,
-            sink,
+            common,
             courses,
             reorder,
-            progress,
             decoder: Decoder::default(),
             table: Table::default(),
             packets: 0,
@@ -194,16 +215,17 @@ impl<'a, 'b> Importer<'a, 'b> {
 
     /// Reads a file, and answers whether bytes stood behind the end of what gzip packed.
     fn file(&mut self, path: &OsStr) -> Result<bool, Early> {
-        let source = Source::open(path)?;
-        self.sink.listener.begin_file(path, self.packets);
+        let source = Source::open_counted(path, Progress::add)?;
+        self.common.sink.listener.begin_file(path, self.packets);
         let mut reader = Reader::new(source)?;
-        while let Some(item) = reader.next()? {
+        self.begin_original(path, &reader)?;
+        while let Some(item) = self.next_of(&mut reader)? {
             match item {
                 Item::Packet(packet) => self.read(&packet)?,
                 Item::Secrets(text) => self.secrets(text),
-                Item::Cut => self.sink.listener.passed(self.packets + 1, "cut"),
+                Item::Cut => self.common.sink.listener.passed(self.packets + 1, "cut"),
             }
-            if self.sink.has_problem() {
+            if self.common.sink.has_problem() {
                 break;
             }
         }
@@ -213,7 +235,7 @@ impl<'a, 'b> Importer<'a, 'b> {
     }
 
     fn look_for_problems(&mut self) -> Result<(), Early> {
-        match self.sink.take_problem() {
+        match self.common.sink.take_problem() {
             None => Ok(()),
             Some(problem) => Err(Early::Problem(problem)),
         }
@@ -223,7 +245,6 @@ impl<'a, 'b> Importer<'a, 'b> {
     fn read(&mut self, packet: &Packet<'_>) -> Result<(), Early> {
         self.packets += 1;
         if self.packets & MOST_BETWEEN_LOOKS == 0 {
-            self.progress.tell(|| format!("{} packets", grouped(self.packets)));
             self.look_for_problems()?;
         }
         match &mut self.reorder {
@@ -248,33 +269,40 @@ impl<'a, 'b> Importer<'a, 'b> {
         if packet.link.is_some() {
             self.look_at_time(arrival);
         }
-        let segment = match self.decoder.segment(packet)? {
-            Ok(segment) => segment,
-            Err(why) => {
-                self.pass_over(number, &why);
+        // What was found is not moved: it is large.
+        let decoded = self.decoder.segment(packet);
+        let segment = match &decoded {
+            Ok(Ok(segment)) => segment,
+            Ok(Err(why)) => {
+                self.pass_over(number, why);
                 return Ok(());
             }
+            Err(_) => return decoded.map(|_| ()).map_err(Early::from),
         };
         self.counts.segments += 1;
         self.counts.snapped += u64::from(segment.is_snapped);
         if self.decoder.has_addresses() {
             self.name_addresses();
         }
-        let answer = self.joining.as_mut().and_then(|joining| joining.lost_answer(&segment));
-        if let Some(headers) = answer {
-            self.answer(arrival, &headers)?;
+        if self.joining.as_ref().map_or(false, |joining| joining.may_lack_answer(segment)) {
+            self.look_for_answer(arrival, segment)?;
         }
-        match self.table.take(self.shared, self.sink, arrival, &segment) {
-            Ok(taken) => self.courses.iter_mut().for_each(|courses| courses.take(&taken, arrival, &segment)),
-            Err(stray) => {
-                if let Some(joining) = &mut self.joining {
-                    joining
-                        .take(self.shared, stray, arrival, &segment)
-                        .map_err(|failure| Early::Problem(Problem::Failed(failure)))?;
-                }
-            }
+        let taken = self.table.take(&mut self.common, arrival, segment);
+        if let (Ok(taken), Some(courses)) = (&taken, &mut self.courses) {
+            courses.take(taken, arrival, segment);
         }
-        Ok(())
+        let kept = match (&mut self.joining, &taken) {
+            (Some(joining), Ok(taken)) => joining.opened(taken, arrival, segment),
+            (Some(joining), Err(stray)) => joining.take(self.common.shared, *stray, arrival, segment),
+            (None, _) => Ok(()),
+        };
+        kept.map_err(Early::from)
+    }
+
+    #[inline(never)]
+    fn look_for_answer(&mut self, arrival: Arrival, segment: &Segment<'_>) -> Result<(), Early> {
+        let answer = self.joining.as_mut().and_then(|joining| joining.lost_answer(segment));
+        answer.map_or(Ok(()), |headers| self.answer(arrival, &headers))
     }
 
     fn look_at_time(&mut self, arrival: Arrival) {
@@ -287,10 +315,11 @@ impl<'a, 'b> Importer<'a, 'b> {
 
     fn name_addresses(&mut self) {
         for (stand_in, original) in self.decoder.take_addresses() {
-            self.sink.listener.address(stand_in, original);
+            self.common.sink.listener.address(stand_in, original);
         }
     }
 
+    #[inline(never)]
     fn pass_over(&mut self, number: u64, why: &PassedOver) {
         self.others.add(why);
         match why {
@@ -298,14 +327,14 @@ impl<'a, 'b> Importer<'a, 'b> {
             PassedOver::NotTcp(..) => self.counts.not_tcp += 1,
             PassedOver::Refused(why) => {
                 self.counts.refused += 1;
-                self.sink.listener.passed(number, &format!("refused {why}"));
+                self.common.sink.listener.passed(number, &format!("refused {why}"));
             }
             PassedOver::Fragment(fragment) => {
                 self.counts.fragments += 1;
                 if let Some(fragment) = fragment {
                     self.count_fragment(fragment);
                 }
-                self.sink.listener.passed(number, "fragment");
+                self.common.sink.listener.passed(number, "fragment");
             }
         }
     }
@@ -328,9 +357,9 @@ impl<'a, 'b> Importer<'a, 'b> {
     }
 
     fn secrets(&mut self, text: &[u8]) {
-        if self.shared.more_keys {
-            let randoms = self.shared.keys.add_text(text);
-            self.table.keys_came(self.shared, self.sink, &randoms);
+        if self.common.shared.more_keys {
+            let randoms = self.common.shared.keys.add_text(text);
+            self.table.keys_came(&mut self.common, &randoms);
         }
     }
 
@@ -338,18 +367,23 @@ impl<'a, 'b> Importer<'a, 'b> {
     /// from the beginning.
     fn finish(mut self) -> Result<(Summary, Vec<u8>), Early> {
         self.in_order(Reorder::take)?;
-        self.table.ask_for_sessions(self.shared);
-        let mut missed = tls::lines_for(&self.shared.sessions, &self.shared.keys);
-        if !missed.is_empty() && self.shared.keys.waits_for_sessions {
-            let randoms = self.shared.keys.add_text(&std::mem::take(&mut missed));
-            self.table.keys_came(self.shared, self.sink, &randoms);
+        self.table.ask_for_sessions(self.common.shared);
+        let mut missed = tls::lines_for(&self.common.shared.sessions, &self.common.shared.keys);
+        if !missed.is_empty() && self.common.shared.keys.waits_for_sessions {
+            let randoms = self.common.shared.keys.add_text(&std::mem::take(&mut missed));
+            self.table.keys_came(&mut self.common, &randoms);
         }
         self.counts.records = self.packets;
         let mut ended = self.join()?;
-        let (mut outcomes, mut unopened) = std::mem::take(&mut self.table).finish_all(self.shared, self.sink);
+        // All segments came: what is known of each connection for them goes before its outcomes are put together.
+        if let Some(courses) = self.courses.as_deref_mut() {
+            courses.finish();
+        }
+        let (mut outcomes, mut unopened) = std::mem::take(&mut self.table).finish_all(&mut self.common);
         ended.complete(&mut outcomes, &mut unopened);
         let summary = Summary {
-            joined: ended.joined,
+            joined: std::mem::take(&mut ended.joined),
+            gaps: std::mem::take(&mut ended.gaps),
             counts: self.counts,
             dropped: self.dropped,
             back: self.back.take(),
@@ -358,12 +392,8 @@ impl<'a, 'b> Importer<'a, 'b> {
             unopened,
             outcomes,
         };
-        self.sink.listener.finish(&summary);
-        if let Some(courses) = self.courses.as_deref_mut() {
-            courses.finish();
-        }
+        self.common.sink.listener.finish(&summary);
         self.look_for_problems()?;
-        self.progress.end();
         Ok((summary, missed))
     }
 }

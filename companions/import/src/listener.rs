@@ -3,7 +3,7 @@
 
 use std::ffi::OsStr;
 
-use captures::{placed, Arrival, Segment};
+use captures::{placed, Arrival, InIpv4, Segment};
 use programs::Failure;
 
 use crate::outcomes::Summary;
@@ -78,10 +78,17 @@ impl<'a> Written<'a> {
         Written { parts: segment.datagram(), original: segment.original, ..Written::like(segment, segment.end) }
     }
 
+    /// The same, of one that was found before.
+    #[inline]
+    pub(crate) fn standing(found: &InIpv4<'a>) -> Written<'a> {
+        let InIpv4 { datagram, original, sequence, flags, start, end, .. } = *found;
+        Written { sequence, flags, parts: [&[], datagram], start, end, original }
+    }
+
     /// A segment without its payload, for whose datagram there is some room.
     pub(crate) fn headers(segment: &Segment<'_>, room: &'a mut Vec<u8>) -> Written<'a> {
         room.clear();
-        segment.headers().iter().for_each(|part| room.extend_from_slice(part));
+        segment.headers().iter().filter(|part| !part.is_empty()).for_each(|part| room.extend_from_slice(part));
         let length = (segment.start as u16).to_be_bytes();
         room[2..4].copy_from_slice(&length);
         Written { parts: [room, &[]], original: segment.start as u32, ..Written::like(segment, segment.start) }

@@ -7,7 +7,7 @@ use std::net::Ipv4Addr;
 use programs::{Failure, Output};
 
 use crate::addresses::{escaped_path, Addresses};
-use crate::joined_lines::lines_of;
+use crate::joined_lines::{line_of_gap, lines_of};
 use crate::listener::{Files, Listener, Record};
 use crate::others::Kind;
 use crate::outcomes::{Became, Fate, Outcome, Read, Reordered, SideRead, Summary};
@@ -150,10 +150,15 @@ impl Listener for MapFile<'_> {
             }
         }
         let mut joined = summary.joined.iter().peekable();
+        let mut gaps = summary.gaps.iter().peekable();
         for (number, outcome) in summary.outcomes.iter().enumerate() {
             self.connection(outcome);
             if let Some(one) = joined.next_if(|one| one.connection == number) {
                 lines_of(one).iter().for_each(|line| self.line(format_args!("{line}")));
+            }
+            while let Some(gap) = gaps.next_if(|gap| gap.connection == number) {
+                let place = self.files.place(gap.first.packet);
+                self.line(format_args!("{}", line_of_gap(gap, place)));
             }
         }
     }

@@ -86,6 +86,18 @@ impl Became {
         }
     }
 
+    /// Why a side's plaintext ends, where that is no loss of bytes, and no end of the capture.
+    pub fn special_end(&self, side: usize) -> Option<String> {
+        let read = match self {
+            Became::Read(read) => read,
+            Became::Clear | Became::Refused(_) => return None,
+        };
+        match if side == crate::CLIENT { read.client.end } else { read.server.end } {
+            End::Whole | End::Cut | End::Lost => None,
+            end @ (End::TooLarge | End::Stopped(_)) => Some(end.to_string()),
+        }
+    }
+
     /// As the map says it (docs/MAP.md).
     pub fn words(&self) -> String {
         match self {
@@ -160,8 +172,33 @@ pub struct JoinedConnection {
     /// As [`Summary::outcomes`] counts.
     pub connection: usize,
     pub how: How,
-    /// How many records were made up.
+    /// How many records were made up, and how many bytes of each side.
     pub records: u64,
+    pub bytes: [u64; 2],
+    pub behind: Behind,
+    /// Whether packets of one side alone were captured: without the other one's grants no window can be told.
+    pub is_one_way: bool,
+}
+
+/// Whether a connection was joined behind a gap.
+#[derive(Clone, Copy, Debug, PartialEq, Eq)]
+pub enum Behind {
+    /// It was not.
+    No,
+    /// It goes on with a connection of this number.
+    Gap(usize),
+    /// What was captured of it before a gap could not be joined.
+    First,
+}
+
+/// Where bytes of a connection are missing, and what became of what follows.
+#[derive(Clone, Copy, Debug)]
+pub struct GapSaid {
+    pub connection: usize,
+    /// Whose bytes are missing, and the first packet behind them.
+    pub side: usize,
+    pub first: Arrival,
+    pub fate: Fate,
 }
 
 /// A packet whose time lies so far before that of the packet before it.
@@ -249,6 +286,8 @@ pub struct Summary {
     pub outcomes: Vec<Outcome>,
     /// By the numbers of connections.
     pub joined: Vec<JoinedConnection>,
+    /// By the numbers of connections, and the packets behind the gaps.
+    pub gaps: Vec<GapSaid>,
 }
 
 impl Summary {

@@ -30,7 +30,7 @@ pub struct Later {
 
 /// What became of a connection of TLS, at its end, of which so many bytes are written; and of each side the first packet
 /// behind bytes that were lost.
-pub fn became(tls: &tls::Connection, sent: [u32; 2]) -> (Became, [Option<Arrival>; 2]) {
+pub fn became(tls: &tls::TlsConnection, sent: [u32; 2]) -> (Became, [Option<Arrival>; 2]) {
     if let Some(why) = tls.refused() {
         return (Became::Refused(why), [None; 2]);
     }

@@ -36,7 +36,7 @@ pub struct Preamble {
 }
 
 #[derive(Clone, Copy, Debug, PartialEq, Eq)]
-pub enum Found {
+pub enum Looked {
     No,
     /// More bytes will tell.
     Maybe,
@@ -44,29 +44,29 @@ pub enum Found {
 }
 
 /// Looks at the first bytes of client and server.
-pub fn look(client: &[u8], server: &[u8]) -> Found {
+pub fn look(client: &[u8], server: &[u8]) -> Looked {
     if client.is_empty() {
-        return Found::No;
+        return Looked::No;
     }
     let begins = |word: &[u8]| client.iter().zip(word).all(|(byte, of_word)| byte == of_word);
     match () {
         () if begins(V1) => proxy_v1(client),
         () if begins(V2) => proxy_v2(client),
         () if begins(CONNECT) => connect(client, server),
-        () => Found::No,
+        () => Looked::No,
     }
 }
 
-fn found(kind: Kind, client: usize, server: usize) -> Found {
-    Found::Yes(Preamble { kind, lengths: [client as u32, server as u32] })
+fn found(kind: Kind, client: usize, server: usize) -> Looked {
+    Looked::Yes(Preamble { kind, lengths: [client as u32, server as u32] })
 }
 
-fn proxy_v1(client: &[u8]) -> Found {
+fn proxy_v1(client: &[u8]) -> Looked {
     let line = &client[..client.len().min(LONGEST_V1)];
     match end_of(line, b"\r\n") {
         Some(end) if is_v1(&line[..end]) => found(Kind::ProxyV1, end, 0),
-        None if client.len() < LONGEST_V1 => Found::Maybe,
-        _ => Found::No,
+        None if client.len() < LONGEST_V1 => Looked::Maybe,
+        _ => Looked::No,
     }
 }
 
@@ -74,29 +74,29 @@ fn is_v1(line: &[u8]) -> bool {
     [&b"PROXY TCP4 "[..], b"PROXY TCP6 ", b"PROXY UNKNOWN"].iter().any(|word| line.starts_with(word))
 }
 
-fn proxy_v2(client: &[u8]) -> Found {
+fn proxy_v2(client: &[u8]) -> Looked {
     match client.get(..V2_HEADER) {
-        None => Found::Maybe,
+        None => Looked::Maybe,
         Some(&[.., version, _, high, low]) if version >> 4 == 2 => {
             let end = V2_HEADER + usize::from(u16::from_be_bytes([high, low]));
             if client.len() < end {
-                Found::Maybe
+                Looked::Maybe
             } else {
                 found(Kind::ProxyV2, end, 0)
             }
         }
-        Some(_) => Found::No,
+        Some(_) => Looked::No,
     }
 }
 
 /// A CONNECT that was answered with success.
-fn connect(client: &[u8], server: &[u8]) -> Found {
+fn connect(client: &[u8], server: &[u8]) -> Looked {
     match (head_of(client), head_of(server)) {
         (Head::Whole(asked), Head::Whole(answer)) if is_connect(&client[..asked]) && is_success(&server[..answer]) => {
             found(Kind::Connect, asked, answer)
         }
-        (Head::None, _) | (_, Head::None) | (Head::Whole(_), Head::Whole(_)) => Found::No,
-        _ => Found::Maybe,
+        (Head::None, _) | (_, Head::None) | (Head::Whole(_), Head::Whole(_)) => Looked::No,
+        _ => Looked::Maybe,
     }
 }
 

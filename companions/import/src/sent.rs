@@ -53,18 +53,20 @@ pub struct Sent {
 /// at a time, in four sums side by side; what differs in one sum alone differs in the result.
 fn print_of(sequence: u32, identification: u16, octets: &[u8]) -> u64 {
     let add = |sum: u64, number: u64| (sum ^ number).wrapping_mul(FACTOR).rotate_left(TURN);
+    let number = |eight: &[u8]| eight.try_into().map_or(0, u64::from_le_bytes);
     let mut sums = [0, 1, 2, 3];
-    let mut take = |all: &[u8]| {
-        for (sum, eight) in sums.iter_mut().zip(all.chunks_exact(8)) {
-            *sum = add(*sum, eight.try_into().map_or(0, u64::from_le_bytes));
-        }
-    };
     let mut all = octets.chunks_exact(STRIDE);
-    all.by_ref().for_each(&mut take);
-    let mut last = [0; STRIDE];
-    last[..all.remainder().len()].copy_from_slice(all.remainder());
-    take(&last);
-    let others = [u64::from(sequence), u64::from(identification), octets.len() as u64];
+    for stride in &mut all {
+        for (sum, eight) in sums.iter_mut().zip(stride.chunks_exact(8)) {
+            *sum = add(*sum, number(eight));
+        }
+    }
+    let mut last = all.remainder().chunks_exact(8);
+    for (sum, eight) in sums.iter_mut().zip(&mut last) {
+        *sum = add(*sum, number(eight));
+    }
+    let rest = last.remainder().iter().fold(0, |rest, octet| rest << 8 | u64::from(*octet));
+    let others = [rest, u64::from(sequence), u64::from(identification), octets.len() as u64];
     sums.into_iter().chain(others).fold(0, add)
 }
 

@@ -8,8 +8,6 @@ use programs::{temporary_failure, Failure, Output, PrivateFile};
 
 use crate::listener::{Listener, Record, Sender, Written};
 
-const NANOS: i64 = 1_000_000_000;
-
 /// Where the capture that is made goes.
 pub trait Target: Write {
     /// Takes back what was written, to a file that is no other's yet.
@@ -77,18 +75,24 @@ impl<'a> Sink<'a> {
 
     /// Writes a segment of a connection, or of none.
     pub fn emit(&mut self, arrival: Arrival, sender: Option<Sender>, segment: Written<'_>) {
-        if self.problem.is_some() {
-            return;
+        if self.may_write(arrival) {
+            let written = self.writer.write(arrival.nanos, segment.original, segment.parts);
+            self.emitted(written, arrival, sender, segment);
         }
-        let time = match u32::try_from(arrival.nanos.div_euclid(NANOS)) {
-            Ok(seconds) => (seconds, arrival.nanos.rem_euclid(NANOS) as u32),
-            Err(_) => {
-                self.problem = Some(Problem::BadTime);
-                return;
-            }
-        };
+    }
+
+    #[inline]
+    fn may_write(&mut self, arrival: Arrival) -> bool {
+        if self.problem.is_none() && !pcap::is_time(arrival.nanos) {
+            self.problem = Some(Problem::BadTime);
+        }
+        self.problem.is_none()
+    }
+
+    #[inline]
+    fn emitted(&mut self, written: io::Result<()>, arrival: Arrival, sender: Option<Sender>, segment: Written<'_>) {
         self.count += 1;
-        if let Err(error) = self.writer.write(time, segment.original, segment.parts) {
+        if let Err(error) = written {
             self.problem = Some(Problem::Failed(self.writer.get_mut().failure(&error)));
         }
         let is_opening = sender.map_or(false, |sender| self.opens(sender.connection));

@@ -8,9 +8,11 @@ use std::collections::{HashMap, VecDeque};
 use captures::{flags, swapped, Arrival, Ends, Segment, END_OF_OFFSETS};
 use tls::{Random, Shared, CLIENT, SERVER};
 
-use crate::connections::Connection;
+use crate::common::{Came, Common};
+use crate::connections::FollowedConnection;
+use crate::ends_hashing::EndsHashing;
 use crate::listener::{Sender, Written};
-use crate::outcomes::{Fate, Outcome, Unopened};
+use crate::outcomes::{Became, Fate, Outcome, Unopened};
 use crate::plaintext::Later;
 use crate::sink::Sink;
 
@@ -33,6 +35,14 @@ enum State {
     Open(usize),
     /// Its connection is over: whether segments still pass, and the sequence number of its opening.
     Over { passes: bool, sequence: Option<u32> },
+    /// It opened none so far, and is the pair of this number among these.
+    Unopened(usize),
+}
+
+/// What a connection's bytes are, behind a gap.
+pub enum Bytes {
+    Clear,
+    Tls(Box<tls::TlsConnection>),
 }
 
 struct Pair {
@@ -53,15 +63,19 @@ impl Pair {
         Pair { first, ends, segments: 0, has_both, has_answer, acknowledged: None, acknowledges_more }
     }
 
-    fn take(&mut self, segment: &Segment<'_>) {
+    /// Takes a segment, and answers whether its first sender sends (0) or the other one.
+    #[inline]
+    fn take(&mut self, segment: &Segment<'_>) -> usize {
         let both = flags::SYN | flags::ACK;
+        let is_other = segment.ends != self.ends;
         self.segments += 1;
-        self.has_both |= segment.ends != self.ends;
+        self.has_both |= is_other;
         self.has_answer |= segment.flags & both == both;
         if segment.flags & flags::ACK != 0 {
             let more = segment.acknowledgement.wrapping_sub(*self.acknowledged.get_or_insert(segment.acknowledgement));
             self.acknowledges_more |= more > 0 && more < END_OF_OFFSETS;
         }
+        usize::from(is_other)
     }
 
     fn unopened(self) -> Unopened {
@@ -85,14 +99,17 @@ pub struct Stray {
     pub flow: usize,
 }
 
+type Places = HashMap<Ends, Place, EndsHashing>;
+
 /// The connections of a capture, and the pairs of endpoints that were not seen to open one.
 #[derive(Default)]
 pub struct Table {
-    places: HashMap<Ends, Place>,
-    /// Where the pairs stand that no opening was seen of, which come in the order of their first segments.
-    strays: HashMap<Ends, usize>,
+    places: Places,
+    /// Of the last segment's pair, until places change.
+    latest: Option<(Ends, Place)>,
+    /// In the order of their first segments.
     unopened: Vec<Pair>,
-    slots: Vec<Option<Box<Connection>>>,
+    slots: Vec<Option<Box<FollowedConnection>>>,
     free: Vec<usize>,
     /// By the numbers of connections.
     outcomes: Vec<(usize, Outcome)>,
@@ -107,6 +124,9 @@ pub struct Table {
     /// How many fragments belong to connections, by their numbers.
     fragments: HashMap<usize, u64>,
     room: Vec<u8>,
+    /// Whether connections are joined behind gaps; and of those of TLS with gaps, what their records go on with.
+    pub is_joining: bool,
+    behind: HashMap<usize, Box<tls::TlsConnection>>,
 }
 
 /// A pair's name, whoever sends, and whether the sender is the lesser of the two.
@@ -120,7 +140,7 @@ fn pair_of(ends: &Ends) -> (Ends, bool) {
 }
 
 /// The last connection of a connection's pair, where it is another one.
-fn later_than(connection: &Connection, places: &HashMap<Ends, Place>) -> Option<Later> {
+fn later_than(connection: &FollowedConnection, places: &Places) -> Option<Later> {
     let (pair, is_less) = pair_of(connection.ends());
     let place = places.get(&pair).filter(|place| place.connection != connection.number())?;
     let sides = if place.client_is_less == is_less { [CLIENT, SERVER] } else { [SERVER, CLIENT] };
@@ -131,64 +151,92 @@ impl Table {
     /// Takes a segment to its connection, and answers which one that is, or that there is none.
     pub fn take(
         &mut self,
-        shared: &mut Shared,
-        sink: &mut Sink<'_>,
+        common: &mut Common<'_, '_>,
         arrival: Arrival,
         segment: &Segment<'_>,
     ) -> Result<Taken, Stray> {
         let (pair, is_less) = pair_of(&segment.ends);
-        let place = self.places.get(&pair).copied();
+        let place = self.place_of(&pair);
         let side = place.map(|place| if place.client_is_less == is_less { CLIENT } else { SERVER });
         if segment.flags & (flags::SYN | flags::ACK) == flags::SYN && !self.repeats(side, place, segment.sequence) {
-            let slot = self.open(shared, sink, arrival, segment, place.map(|place| place.state));
+            let slot = self.open(common, arrival, segment, place.map(|place| place.state));
             let connection = self.count - 1;
             self.last.push(arrival);
+            self.latest = None;
             self.places.insert(pair, Place { connection, client_is_less: is_less, state: State::Open(slot) });
-            self.take_open(shared, sink, arrival, CLIENT, segment, slot);
+            self.take_open(common, slot, &Came { arrival, side: CLIENT, segment });
             return Ok(Taken { sender: Sender { connection, side: CLIENT }, opens: true });
         }
         let (place, side) = match (place, side) {
+            (Some(Place { state: State::Unopened(number), .. }), _) => {
+                return Err(self.stray(common.sink, arrival, segment, number));
+            }
             (Some(place), Some(side)) => (place, side),
-            _ => return Err(self.stray(sink, arrival, segment, pair)),
+            _ => {
+                let number = self.unopened.len();
+                let state = State::Unopened(number);
+                self.latest = None;
+                self.places.insert(pair, Place { connection: usize::MAX, client_is_less: is_less, state });
+                self.unopened.push(Pair::new(arrival, segment.ends));
+                return Err(self.stray(common.sink, arrival, segment, number));
+            }
         };
         let sender = Sender { connection: place.connection, side };
         self.last[place.connection] = arrival;
         match place.state {
-            State::Open(slot) => self.take_open(shared, sink, arrival, side, segment, slot),
-            State::Over { passes: true, .. } => sink.emit(arrival, Some(sender), Written::whole(segment)),
-            State::Over { passes: false, .. } => {}
+            State::Open(slot) => self.take_open(common, slot, &Came { arrival, side, segment }),
+            State::Over { passes: true, .. } => common.sink.emit(arrival, Some(sender), Written::whole(segment)),
+            State::Over { passes: false, .. } | State::Unopened(_) => {}
         }
         Ok(Taken { sender, opens: false })
     }
 
-    /// Whose a segment of these ends is by now.
-    pub fn sender(&self, ends: &Ends) -> Option<Sender> {
-        let (pair, is_less) = pair_of(ends);
-        let place = self.places.get(&pair)?;
-        let side = if place.client_is_less == is_less { CLIENT } else { SERVER };
-        Some(Sender { connection: place.connection, side })
+    /// Whether the segments of a pair go through as they stand.
+    pub fn passes(&self, ends: &Ends) -> bool {
+        let place = self.places.get(&pair_of(ends).0);
+        matches!(place, Some(Place { state: State::Over { passes: true, .. }, .. }))
     }
 
-    fn take_open(
-        &mut self,
-        shared: &mut Shared,
-        sink: &mut Sink<'_>,
-        arrival: Arrival,
-        side: usize,
-        segment: &Segment<'_>,
-        slot: usize,
-    ) {
+    /// Writes a segment that waited, of a connection that goes through as it stands.
+    #[inline]
+    pub fn pass(&mut self, sink: &mut Sink<'_>, sender: Sender, arrival: Arrival, segment: Written<'_>) {
+        self.last[sender.connection] = arrival;
+        sink.emit(arrival, Some(sender), segment);
+    }
+
+    /// What the bytes are of a connection with a gap, where they could be read. All connections have ended.
+    pub fn take_bytes(&mut self, connection: usize) -> Option<Bytes> {
+        let at = self.outcomes.binary_search_by_key(&connection, |one| one.0).ok()?;
+        match self.outcomes[at].1.became {
+            Became::Clear => Some(Bytes::Clear),
+            Became::Read(_) => self.behind.remove(&connection).map(Bytes::Tls),
+            Became::Refused(_) => None,
+        }
+    }
+
+    fn place_of(&mut self, pair: &Ends) -> Option<Place> {
+        match self.latest {
+            Some((latest, place)) if latest == *pair => Some(place),
+            _ => {
+                let place = self.places.get(pair).copied();
+                self.latest = place.map(|place| (*pair, place));
+                place
+            }
+        }
+    }
+
+    fn take_open(&mut self, common: &mut Common<'_, '_>, slot: usize, came: &Came<'_, '_>) {
         let connection = match &mut self.slots[slot] {
             Some(connection) => connection,
             None => return,
         };
-        connection.take(shared, sink, arrival, side, segment);
+        connection.take(common, came);
         if connection.is_clear() || connection.is_over() {
-            self.finish(shared, sink, slot);
+            self.finish(common, slot);
             return;
         }
-        if segment.flags & flags::RST != 0 && connection.is_tls() {
-            self.reset.push_back((arrival.nanos, connection.number(), slot));
+        if came.segment.flags & flags::RST != 0 && connection.is_tls() {
+            self.reset.push_back((came.arrival.nanos, connection.number(), slot));
         }
         self.list(slot);
     }
@@ -203,12 +251,20 @@ impl Table {
         }
     }
 
+    /// Whether a SYN of this client with this number would be the one that opened its last connection once more.
+    pub fn has_opened(&self, ends: &Ends, sequence: u32) -> bool {
+        let (pair, is_less) = pair_of(ends);
+        let place = self.places.get(&pair).copied();
+        let side = place.map(|place| if place.client_is_less == is_less { CLIENT } else { SERVER });
+        self.repeats(side, place, sequence)
+    }
+
     /// Whether a SYN with this number is the one that opened the sender's last connection once more.
     fn repeats(&self, side: Option<usize>, place: Option<Place>, sequence: u32) -> bool {
         let opened = match place.filter(|_| side == Some(CLIENT)).map(|place| place.state) {
             Some(State::Open(slot)) => self.slots[slot].as_ref().and_then(|connection| connection.initial()),
             Some(State::Over { sequence, .. }) => sequence,
-            None => None,
+            Some(State::Unopened(_)) | None => None,
         };
         opened == Some(sequence)
     }
@@ -216,19 +272,18 @@ impl Table {
     /// A new connection, and its slot. One that its pair had before has all its segments now.
     fn open(
         &mut self,
-        shared: &mut Shared,
-        sink: &mut Sink<'_>,
+        common: &mut Common<'_, '_>,
         arrival: Arrival,
         segment: &Segment<'_>,
         before: Option<State>,
     ) -> usize {
         if let Some(State::Open(slot)) = before {
             if self.slots[slot].as_ref().map_or(false, |connection| !connection.waits_for_key()) {
-                self.finish(shared, sink, slot);
+                self.finish(common, slot);
             }
         }
-        self.end_reset(shared, sink, arrival.nanos);
-        let connection = Some(Box::new(Connection::new(self.count, arrival, segment)));
+        self.end_reset(common, arrival.nanos);
+        let connection = Some(Box::new(FollowedConnection::new(self.count, arrival, segment)));
         self.count += 1;
         match self.free.pop() {
             Some(slot) => {
@@ -244,7 +299,7 @@ impl Table {
 
     /// Ends connections whose RST was so long ago that no segment sent before it is still on its way. Where there is a
     /// hole, or something waits, that is left to the end, so that what is written keeps its order.
-    fn end_reset(&mut self, shared: &mut Shared, sink: &mut Sink<'_>, now: i64) {
+    fn end_reset(&mut self, common: &mut Common<'_, '_>, now: i64) {
         while let Some(&(then, number, slot)) = self.reset.front() {
             if now.saturating_sub(then) <= LONGEST_WAY {
                 break;
@@ -252,24 +307,20 @@ impl Table {
             self.reset.pop_front();
             let connection = self.slots[slot].as_ref();
             if connection.map_or(false, |connection| connection.number() == number && connection.is_quiet()) {
-                self.finish(shared, sink, slot);
+                self.finish(common, slot);
             }
         }
     }
 
     /// Counts a segment of no connection, and writes its headers, for h2audit to name it.
-    fn stray(&mut self, sink: &mut Sink<'_>, arrival: Arrival, segment: &Segment<'_>, pair: Ends) -> Stray {
-        let place = *self.strays.entry(pair).or_insert(self.unopened.len());
-        if place == self.unopened.len() {
-            self.unopened.push(Pair::new(arrival, segment.ends));
-        }
-        self.unopened[place].take(segment);
+    fn stray(&mut self, sink: &mut Sink<'_>, arrival: Arrival, segment: &Segment<'_>, number: usize) -> Stray {
+        let flow = self.unopened[number].take(segment);
         sink.emit(arrival, None, Written::headers(segment, &mut self.room));
-        Stray { pair: place, flow: usize::from(self.unopened[place].ends != segment.ends) }
+        Stray { pair: number, flow }
     }
 
     /// Goes on with what waited for keys of these connections, in the order of openings.
-    pub fn keys_came(&mut self, shared: &mut Shared, sink: &mut Sink<'_>, randoms: &[Random]) {
+    pub fn keys_came(&mut self, common: &mut Common<'_, '_>, randoms: &[Random]) {
         let mut slots: Vec<_> = randoms.iter().filter_map(|random| self.waiting.remove(random)).flatten().collect();
         slots.sort_unstable();
         for (number, slot) in slots {
@@ -277,7 +328,7 @@ impl Table {
                 connection.is_listed = false;
                 if connection.waits_for_key() {
                     connection.note_later(later_than(connection, &self.places));
-                    connection.advance(shared, sink);
+                    connection.advance(common);
                 }
                 self.list(slot);
             }
@@ -286,7 +337,8 @@ impl Table {
 
     /// Counts a fragment at the connection that its pair has now.
     pub fn fragment(&mut self, ends: &Ends) {
-        if let Some(place) = self.places.get(&pair_of(ends).0) {
+        let place = self.places.get(&pair_of(ends).0).filter(|place| !matches!(place.state, State::Unopened(_)));
+        if let Some(place) = place {
             *self.fragments.entry(place.connection).or_insert(0) += 1;
         }
     }
@@ -307,14 +359,18 @@ impl Table {
         open
     }
 
-    fn finish(&mut self, shared: &mut Shared, sink: &mut Sink<'_>, slot: usize) {
+    fn finish(&mut self, common: &mut Common<'_, '_>, slot: usize) {
         let mut connection = match self.slots[slot].take() {
             Some(connection) => connection,
             None => return,
         };
         self.free.push(slot);
+        self.latest = None;
         connection.note_later(later_than(&connection, &self.places));
-        self.outcomes.push((connection.number(), connection.finish(shared, sink)));
+        self.outcomes.push((connection.number(), connection.finish(common)));
+        if let Some(tls) = connection.take_tls_with_gap(self.is_joining) {
+            self.behind.insert(connection.number(), tls);
+        }
         if let Some(place) = self.places.get_mut(&pair_of(connection.ends()).0) {
             if matches!(place.state, State::Open(open) if open == slot) {
                 place.state = State::Over { passes: connection.is_clear(), sequence: connection.initial() };
@@ -323,17 +379,17 @@ impl Table {
     }
 
     /// Ends all connections.
-    pub fn finish_open(&mut self, shared: &mut Shared, sink: &mut Sink<'_>) {
-        shared.keys.waits_for_sessions = false;
+    pub fn finish_open(&mut self, common: &mut Common<'_, '_>) {
+        common.shared.keys.waits_for_sessions = false;
         for slot in self.open_slots() {
-            self.finish(shared, sink, slot);
+            self.finish(common, slot);
         }
+        self.outcomes.sort_by_key(|(number, _)| *number);
     }
 
     /// Ends all connections, and answers what became of each, and which pairs opened none.
-    pub fn finish_all(mut self, shared: &mut Shared, sink: &mut Sink<'_>) -> (Vec<Outcome>, Vec<Unopened>) {
-        self.finish_open(shared, sink);
-        self.outcomes.sort_by_key(|(number, _)| *number);
+    pub fn finish_all(mut self, common: &mut Common<'_, '_>) -> (Vec<Outcome>, Vec<Unopened>) {
+        self.finish_open(common);
         for ((number, outcome), last) in self.outcomes.iter_mut().zip(self.last) {
             outcome.fragments = self.fragments.get(number).copied().unwrap_or(0);
             outcome.last = last;

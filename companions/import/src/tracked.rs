@@ -5,7 +5,7 @@ use std::num::NonZeroU64;
 use captures::{flags, Arrival, Segment};
 use tls::{CLIENT, SERVER};
 
-use crate::course::{Again, Course, Held, Uncaptured, Why, NEVER};
+use crate::course::{Again, Held, TcpCourse, Uncaptured, Why, NEVER};
 use crate::room::{Limits, Room};
 use crate::sent::{Fresh, Sent};
 use crate::ways::{Brief, Sending, Way};
@@ -32,7 +32,7 @@ struct State {
 
 impl Tracked {
     /// Takes a segment of a side.
-    pub fn take(&mut self, course: &mut Course, side: usize, arrival: Arrival, segment: &Segment<'_>) {
+    pub fn take(&mut self, course: &mut TcpCourse, side: usize, arrival: Arrival, segment: &Segment<'_>) {
         let has = |flag: u8| segment.flags & flag != 0;
         if side == SERVER && has(flags::SYN) && has(flags::ACK) {
             course.syn_ack.get_or_insert(arrival);
@@ -74,7 +74,13 @@ impl Tracked {
     }
 
     /// Counts the bytes of a segment, and notes holes.
-    fn count(&mut self, course: &mut Course, side: usize, arrival: Arrival, (segment, brief): (&Segment<'_>, &Brief)) {
+    fn count(
+        &mut self,
+        course: &mut TcpCourse,
+        side: usize,
+        arrival: Arrival,
+        (segment, brief): (&Segment<'_>, &Brief),
+    ) {
         let state = &mut self.sides[side];
         let known = &mut course.sides[side];
         let before = state.sent.last();
@@ -125,7 +131,13 @@ impl Tracked {
     }
 
     /// Notes the receive window, which holds back what the other side sends.
-    fn window(&mut self, course: &mut Course, side: usize, arrival: Arrival, (segment, brief): (&Segment<'_>, &Brief)) {
+    fn window(
+        &mut self,
+        course: &mut TcpCourse,
+        side: usize,
+        arrival: Arrival,
+        (segment, brief): (&Segment<'_>, &Brief),
+    ) {
         if segment.flags & flags::SYN != 0 {
             self.shifts[side] = Some(brief.shift);
         }
@@ -145,8 +157,8 @@ impl Tracked {
     }
 
     /// Notes what lasts to the end of the capture.
-    pub fn finish(self, course: &mut Course) {
-        for (side, state) in self.sides.into_iter().enumerate() {
+    pub fn finish(&self, course: &mut TcpCourse) {
+        for (side, state) in self.sides.iter().enumerate() {
             course.sides[side].lost = state.holed;
             let found = state.sent.uncaptured(state.way.largest());
             let first = state.holed.filter(|_| found.bytes > 0).into_iter().chain(found.first);

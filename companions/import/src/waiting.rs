@@ -1,83 +1,339 @@
-//! What waits of connections that began before the capture, in a temporary file without a name: their packets, and the
-//! plaintext of those that are opened, as segments in the clear.
+//! What waits of connections that are joined: their packets, and the plaintext of those that are opened, as segments in
+//! the clear.
+//!
+//! A packet of a file that can be read twice waits there: what is kept says whose it is, and where its record stands.
+//! All else is kept in a temporary file without a name.
 
-use std::fs::File;
-use std::io::{self, BufReader, Read, Write};
+use std::ffi::OsString;
+use std::io::{self, ErrorKind, Write};
 
-use captures::{Arrival, Packet, RAW};
-use programs::PrivateFile;
+use captures::{pcap, Arrival, Decoder, FileView, InIpv4, Order, Packet, Segment, RAW};
+use programs::{printable, temporary_failure, Failure, PrivateFile};
 
-/// Pair, packet, time, length of the datagram, how long it was, and whether it is plaintext.
-const HEAD: usize = 29;
+use crate::listener::Written;
 
-/// The file, while it is written.
+/// Whose it is, and what is known besides.
+const FRONT: usize = 5;
+/// Where a record stands: packet, file, place.
+const STANDS: usize = 20;
+/// What it is known by where it stands; what is kept itself has more behind its front.
+const PRINT: usize = 4;
+/// Of what is kept itself: packet, time, how many bytes it had, and how many it has.
+const KEPT: usize = 24;
+/// So much is written at a time.
+const BUFFER: usize = 1 << 17;
+/// The number of a source stands above its kind.
+const KINDS: u32 = 4;
+
+const FLOW: u8 = 1;
+const PLAINTEXT: u8 = 2;
+/// The record stands at a place that is told, or behind the one before it.
+const IN_FILE: u8 = 4;
+const FOLLOWS: u8 = 8;
+
+/// Whose packets wait.
+#[derive(Clone, Copy, Debug, PartialEq, Eq, Hash)]
+pub enum Source {
+    /// A pair of endpoints that opened no connection, by its number.
+    Pair(usize),
+    /// A connection with a hole, by the number of the hole.
+    Hole(usize),
+    /// What goes on behind a gap, by the number of that.
+    Behind(usize),
+}
+
+impl Source {
+    fn number(self) -> u32 {
+        let (number, kind) = match self {
+            Source::Pair(number) => (number, 0),
+            Source::Hole(number) => (number, 1),
+            Source::Behind(number) => (number, 2),
+        };
+        number as u32 * KINDS + kind
+    }
+
+    fn of(number: u32) -> Source {
+        let place = (number / KINDS) as usize;
+        match number % KINDS {
+            0 => Source::Pair(place),
+            1 => Source::Hole(place),
+            _ => Source::Behind(place),
+        }
+    }
+}
+
+/// A file that can be read twice.
+pub struct Original {
+    pub path: OsString,
+    pub header: pcap::Header,
+}
+
+/// Where a packet's record stands: in which of these files, and where there.
+#[derive(Clone, Copy, Debug, PartialEq, Eq)]
+pub struct Place {
+    pub file: u32,
+    pub at: u64,
+}
+
+/// What is known of a datagram beside its bytes.
+#[derive(Clone, Copy, Debug)]
+pub struct Known {
+    pub source: Source,
+    /// 0 or 1: which of both sends.
+    pub flow: usize,
+    pub arrival: Arrival,
+    pub is_plaintext: bool,
+    /// Where it can be read once more.
+    pub place: Option<Place>,
+}
+
+impl Known {
+    fn front(&self, how: u8) -> [u8; FRONT] {
+        let [a, b, c, d] = self.source.number().to_le_bytes();
+        let plaintext = if self.is_plaintext { PLAINTEXT } else { 0 };
+        [a, b, c, d, self.flow as u8 | plaintext | how]
+    }
+}
+
+/// By which a segment is known once more, as good as surely: its numbers, and where its payload ends.
+#[inline]
+fn print_of(nanos: i64, [sequence, acknowledgement]: [u32; 2], end: usize) -> u32 {
+    sequence ^ acknowledgement.rotate_left(16) ^ nanos as u32 ^ (end as u32) << 16
+}
+
+/// What waits, while it is written.
 #[derive(Default)]
 pub struct Kept {
     file: Option<PrivateFile>,
-    head: Vec<u8>,
+    /// What is written next.
+    buffer: Vec<u8>,
+    /// File and packet of the last one that stands in a file.
+    last: Option<(u32, u64)>,
 }
 
 impl Kept {
-    /// Keeps a datagram of a pair of endpoints, which had so many bytes.
-    pub fn keep(
-        &mut self,
-        pair: usize,
-        arrival: Arrival,
-        is_plaintext: bool,
-        parts: [&[u8]; 2],
-        original: u32,
-    ) -> io::Result<()> {
+    /// Keeps a segment that came as a packet.
+    #[inline(always)] // what is known of it need not stand together then
+    pub fn keep(&mut self, known: &Known, segment: &Segment<'_>) -> io::Result<()> {
+        let place = match known.place {
+            Some(place) => place,
+            None => return self.keep_bytes(known, segment.original, segment.datagram()),
+        };
+        let Arrival { packet, nanos } = known.arrival;
+        let print = print_of(nanos, [segment.sequence, segment.acknowledgement], segment.end);
+        if self.last.replace((place.file, packet)) == Some((place.file, packet - 1)) {
+            self.keep_front(known, IN_FILE | FOLLOWS, print);
+        } else {
+            self.keep_front(known, IN_FILE, print);
+            self.buffer.extend_from_slice(&stands_bytes(packet, place));
+        }
+        self.write_much()
+    }
+
+    #[inline]
+    fn keep_front(&mut self, known: &Known, how: u8, print: u32) {
+        let mut bytes = [0; FRONT + PRINT];
+        bytes[..FRONT].copy_from_slice(&known.front(how));
+        bytes[FRONT..].copy_from_slice(&print.to_le_bytes());
+        self.buffer.extend_from_slice(&bytes);
+    }
+
+    /// Keeps a datagram that had so many bytes.
+    pub fn keep_bytes(&mut self, known: &Known, original: u32, parts: [&[u8]; 2]) -> io::Result<()> {
+        let length = (parts[0].len() + parts[1].len()) as u32;
+        self.buffer.extend_from_slice(&known.front(0));
+        self.buffer.extend_from_slice(&known.arrival.packet.to_le_bytes());
+        self.buffer.extend_from_slice(&known.arrival.nanos.to_le_bytes());
+        self.buffer.extend_from_slice(&original.to_le_bytes());
+        self.buffer.extend_from_slice(&length.to_le_bytes());
+        parts.iter().for_each(|part| self.buffer.extend_from_slice(part));
+        self.write_much()
+    }
+
+    #[inline]
+    fn write_much(&mut self) -> io::Result<()> {
+        match self.buffer.len() < BUFFER {
+            true => Ok(()),
+            false => self.write(),
+        }
+    }
+
+    #[inline(never)]
+    fn write(&mut self) -> io::Result<()> {
         let file = match &mut self.file {
             Some(file) => file,
             none => none.insert(PrivateFile::begin()?),
         };
-        let length = parts.iter().map(|part| part.len()).sum::<usize>();
-        self.head.clear();
-        self.head.extend_from_slice(&(pair as u32).to_le_bytes());
-        self.head.extend_from_slice(&arrival.packet.to_le_bytes());
-        self.head.extend_from_slice(&arrival.nanos.to_le_bytes());
-        self.head.extend_from_slice(&(length as u32).to_le_bytes());
-        self.head.extend_from_slice(&original.to_le_bytes());
-        self.head.push(u8::from(is_plaintext));
-        file.write_all(&self.head)?;
-        parts.iter().try_for_each(|part| file.write_all(part))
+        file.write_all(&self.buffer)?;
+        self.buffer.clear();
+        Ok(())
     }
 
-    /// What waits, to be read; none where nothing does.
-    pub fn packets(self) -> io::Result<Option<Waiting>> {
-        let file = self.file.map(PrivateFile::read_from_the_beginning).transpose()?;
-        Ok(file.map(|file| Waiting { file, datagram: Vec::new() }))
+    /// What waits, to be read, with these files; none where nothing does.
+    pub fn packets(mut self, originals: Vec<Original>) -> io::Result<Option<Waiting>> {
+        if self.file.is_some() {
+            self.write()?;
+        }
+        let has_some = self.file.is_some() || !self.buffer.is_empty();
+        let view = match self.file {
+            Some(file) => FileView::new(file.read_from_the_beginning()?),
+            None => FileView::of_bytes(self.buffer),
+        };
+        let (packet, at) = (0, Place { file: 0, at: 0 });
+        Ok(has_some.then(|| Waiting { view, place: 0, originals, open: None, packet, at }))
     }
+}
+
+fn stands_bytes(packet: u64, place: Place) -> [u8; STANDS] {
+    let mut bytes = [0; STANDS];
+    bytes[..8].copy_from_slice(&packet.to_le_bytes());
+    bytes[8..12].copy_from_slice(&place.file.to_le_bytes());
+    bytes[12..].copy_from_slice(&place.at.to_le_bytes());
+    bytes
 }
 
 /// What waited, in the order in which it came.
 pub struct Waiting {
-    file: BufReader<File>,
-    datagram: Vec<u8>,
+    view: FileView,
+    /// Of what is read next there.
+    place: u64,
+    originals: Vec<Original>,
+    /// The file that is read, by its number.
+    open: Option<(u32, pcap::Records)>,
+    /// The last packet of one, and where what follows it stands.
+    packet: u64,
+    at: Place,
 }
 
-/// One packet of it.
+/// One datagram of it.
+#[derive(Clone, Copy)]
 pub struct Waited<'a> {
-    pub pair: usize,
-    pub arrival: Arrival,
-    pub is_plaintext: bool,
-    pub packet: Packet<'a>,
+    pub known: Known,
+    packet: Packet<'a>,
+    /// Of one that stands in a file: what it is known by, and the file.
+    standing: Option<(u32, &'a OsString)>,
+}
+
+impl<'a> Waited<'a> {
+    /// Its segment. Packets of files are decoded by what decoded them before.
+    pub fn segment(&self, decoder: &mut Decoder) -> Result<Segment<'a>, Failure> {
+        let found = decoder.again(&self.packet);
+        let is_same = |one: &Segment<'_>| self.is_known([one.sequence, one.acknowledgement], one.end);
+        found.filter(is_same).ok_or_else(|| self.standing.map_or_else(ended, |(_, path)| changed(path)))
+    }
+
+    /// The same as it is written; none of IPv6, and of what is not known once more.
+    #[inline]
+    pub fn written(&self) -> Option<Written<'a>> {
+        let found = InIpv4::again(&self.packet)?;
+        let is_same = self.is_known([found.sequence, found.acknowledgement], found.end);
+        is_same.then(|| Written::standing(&found))
+    }
+
+    /// Whether that is the segment that waited.
+    #[inline]
+    fn is_known(&self, numbers: [u32; 2], end: usize) -> bool {
+        self.standing.map_or(true, |(print, _)| print_of(self.packet.nanos, numbers, end) == print)
+    }
 }
 
 impl Waiting {
-    pub fn next(&mut self) -> io::Result<Option<Waited<'_>>> {
-        let mut head = [0; HEAD];
-        match self.file.read_exact(&mut head) {
-            Err(error) if error.kind() == io::ErrorKind::UnexpectedEof => return Ok(None),
-            read => read?,
+    #[allow(clippy::should_implement_trait)] // what waited borrows from this, which no Iterator's may
+    #[inline(always)] // its answer is large, and wanted in few places
+    pub fn next(&mut self) -> Result<Option<Waited<'_>>, Failure> {
+        let (number, how, print) = match self.view.at(self.place, FRONT + PRINT) {
+            Ok(Some(&[a, b, c, d, how, ref print @ ..])) => (u32::from_le_bytes([a, b, c, d]), how, four(print, 0)),
+            Ok(_) => return Ok(None),
+            Err(error) => return Err(temporary_failure(&error)),
+        };
+        let source = (Source::of(number), usize::from(how & FLOW));
+        if how & IN_FILE == 0 {
+            return self.kept(source, how & PLAINTEXT != 0).map(Some);
         }
-        let four = |at: usize| u32::from_le_bytes([head[at], head[at + 1], head[at + 2], head[at + 3]]);
-        let eight = |at: usize| u64::from(four(at)) | u64::from(four(at + 4)) << 32;
-        let (length, original, is_plaintext) = (four(20) as usize, four(24), head[28] != 0);
-        self.datagram.resize(length, 0);
-        self.file.read_exact(&mut self.datagram)?;
-        let arrival = Arrival { packet: eight(4), nanos: eight(12) as i64 };
-        let packet = Packet { nanos: arrival.nanos, link: Some(RAW), data: &self.datagram, original };
-        Ok(Some(Waited { pair: four(0) as usize, arrival, is_plaintext, packet }))
+        self.place += (FRONT + PRINT) as u64;
+        match how & FOLLOWS {
+            0 => self.stands()?,
+            _ => self.packet += 1,
+        }
+        self.standing(source, print).map(Some)
+    }
+
+    /// Reads where the next packet stands.
+    #[inline(never)]
+    fn stands(&mut self) -> Result<(), Failure> {
+        let stands = self.take::<STANDS>()?;
+        self.packet = eight(&stands, 0);
+        self.at = Place { file: four(&stands, 8), at: eight(&stands, 12) };
+        Ok(())
+    }
+
+    pub fn into_originals(self) -> Vec<Original> {
+        self.originals
+    }
+
+    #[inline]
+    fn take<const SIZE: usize>(&mut self) -> Result<[u8; SIZE], Failure> {
+        let bytes = self.view.at(self.place, SIZE).map_err(|error| temporary_failure(&error))?;
+        self.place += SIZE as u64;
+        bytes.and_then(|bytes| bytes.try_into().ok()).ok_or_else(ended)
+    }
+
+    #[inline(never)]
+    fn kept(&mut self, (source, flow): (Source, usize), is_plaintext: bool) -> Result<Waited<'_>, Failure> {
+        self.place += FRONT as u64;
+        let front = self.take::<KEPT>()?;
+        let arrival = Arrival { packet: eight(&front, 0), nanos: eight(&front, 8) as i64 };
+        let (original, length) = (four(&front, 16), four(&front, 20));
+        let place = self.place;
+        self.place += u64::from(length);
+        let data = self.view.at(place, length as usize).map_err(|error| temporary_failure(&error))?;
+        let packet = Packet { nanos: arrival.nanos, link: Some(RAW), data: data.ok_or_else(ended)?, original };
+        Ok(Waited { known: Known { source, flow, arrival, is_plaintext, place: None }, packet, standing: None })
+    }
+
+    #[inline(always)]
+    fn standing(&mut self, (source, flow): (Source, usize), print: u32) -> Result<Waited<'_>, Failure> {
+        let place = self.at;
+        if self.open.as_ref().map_or(true, |(open, _)| *open != place.file) {
+            self.open(place.file)?;
+        }
+        let path = &self.originals[place.file as usize].path;
+        let (packet, end) = match self.open.as_mut().map_or(Ok(None), |(_, records)| records.at(place.at)) {
+            Ok(Some(found)) => found,
+            Ok(None) => return Err(changed(path)),
+            Err(error) => return Err(Failure::of_file(path, &error)),
+        };
+        self.at.at = end;
+        let arrival = Arrival { packet: self.packet, nanos: packet.nanos };
+        let known = Known { source, flow, arrival, is_plaintext: false, place: Some(place) };
+        Ok(Waited { known, packet, standing: Some((print, path)) })
+    }
+
+    #[inline(never)]
+    fn open(&mut self, file: u32) -> Result<(), Failure> {
+        let Original { path, header } = &self.originals[file as usize];
+        let records = pcap::Records::open(path, *header).map_err(|error| Failure::of_file(path, &error))?;
+        self.open = Some((file, records));
+        Ok(())
     }
 }
+
+fn four(bytes: &[u8], at: usize) -> u32 {
+    Order::Little.u32(bytes, at)
+}
+
+fn eight(bytes: &[u8], at: usize) -> u64 {
+    u64::from(four(bytes, at)) | u64::from(four(bytes, at + 4)) << 32
+}
+
+/// The temporary file ends within something.
+fn ended() -> Failure {
+    temporary_failure(&ErrorKind::UnexpectedEof.into())
+}
+
+fn changed(path: &OsString) -> Failure {
+    Failure::Io(format!("{}: changed while it was read", printable(path)))
+}
+
+#[cfg(test)]
+mod tests;

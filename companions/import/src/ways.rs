@@ -31,6 +31,8 @@ pub struct Way {
     free: Option<i64>,
     /// The largest segment that the other side takes, as its SYN says.
     size: Option<u32>,
+    /// Whether the side has sent its FIN.
+    has_fin: bool,
 }
 
 /// A segment, when it was sent first, and whether that was not the only time.
@@ -89,6 +91,7 @@ impl Way {
         if length == 0 {
             return Sending::default();
         }
+        self.has_fin |= segment.has(flags::FIN);
         let (begin, end) = (segment.sequence, segment.sequence.wrapping_add(length));
         let is_new = self.sent.map_or(true, |sent| !is_behind(sent, begin));
         let held = if is_new && payload > 0 { self.held(arrival, payload) } else { None };
@@ -157,6 +160,9 @@ impl Way {
         let count = self.timed.iter().take_while(|one| !is_behind(one.end, number)).count();
         for one in self.timed.drain(..count) {
             last = if one.is_again { last } else { Some(one.nanos) };
+        }
+        if self.has_fin && self.timed.is_empty() {
+            self.timed = Vec::new();
         }
         last.map(|last| arrival.nanos.saturating_sub(last)).filter(|took| *took >= 0)
     }

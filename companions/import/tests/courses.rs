@@ -8,7 +8,7 @@ use std::time::{Duration, Instant};
 
 use captures::{flags, Arrival};
 use common::{captured, Datagram};
-use import::{Courses, Held, Record, Summary, Why, CLIENT, NEVER, SERVER};
+use import::{Courses, Held, Record, Summary, TcpCourse, Why, CLIENT, NEVER, SERVER};
 
 const SECOND: u64 = 1_000_000_000;
 const MILLISECOND: u64 = 1_000_000;
@@ -46,6 +46,10 @@ fn courses_of(packets: &[(u64, Datagram)]) -> (Courses, Summary) {
     (courses, summary)
 }
 
+fn course(courses: &Courses, number: usize) -> &TcpCourse {
+    courses.connections[number].as_deref().unwrap()
+}
+
 /// The packet of this number of those that came in turn.
 fn at(packet: u64) -> Option<Arrival> {
     Some(Arrival { packet, nanos: (SECOND + packet - 1) as i64 })
@@ -78,7 +82,7 @@ fn facts_of_a_connection() {
         datagram(CLIENT, flags::RST, 46, b""),
     ]));
     let (courses, _) = courses_of(&packets);
-    let course = &courses.connections[0];
+    let course = course(&courses, 0);
     assert_eq!((courses.connections.len(), Some(course.syn)), (1, at(1)));
     assert_eq!((course.syn_ack, course.ack), (at(2), at(3)));
     let [client, server] = &course.sides;
@@ -108,7 +112,7 @@ fn what_lasts_to_the_end() {
         Datagram { window: 1, ..datagram(SERVER, flags::RST, 0, b"") },
     ]));
     let (courses, _) = courses_of(&packets);
-    let course = &courses.connections[0];
+    let course = course(&courses, 0);
     assert_eq!((course.sides[CLIENT].lost, course.sides[SERVER].lost), (at(4), None));
     assert_eq!(course.held, [held(Why::ZeroWindow, CLIENT, at(7), None)]);
     assert_eq!((course.held[0].end, course.held[0].last), (NEVER, None));
@@ -120,7 +124,7 @@ fn windows_of_openings() {
     let [syn, answer, ack] = opening();
     let [syn, answer] = [syn, answer].map(|one| Datagram { window: 0, ..one });
     let (courses, _) = courses_of(&in_turn([syn, answer, ack]));
-    assert_eq!(courses.connections[0].held, [held(Why::ZeroWindow, CLIENT, at(2), None)]);
+    assert_eq!(course(&courses, 0).held, [held(Why::ZeroWindow, CLIENT, at(2), None)]);
 }
 
 /// A segment was captured twice where its bytes came before with the same identification, or, without one, just before.
@@ -140,7 +144,7 @@ fn captured_twice() {
         let opening = in_turn([syn.clone(), answer.clone(), ack.clone()]);
         let packets = [opening, vec![(2 * SECOND, first), (2 * SECOND + later, again)]].concat();
         let (courses, _) = courses_of(&packets);
-        let course = &courses.connections[0];
+        let course = course(&courses, 0);
         let client = &course.sides[CLIENT];
         let resent = if doubled == 1 { 0 } else { bytes };
         assert_eq!((client.segments, client.bytes, client.resent, client.doubled), (2, 4, resent, doubled));
@@ -159,7 +163,7 @@ fn captured_twice_with_a_syn() {
     });
     for (first, again) in [(&plain, &with_syn), (&with_syn, &plain)] {
         let packets = in_turn([&syn, &answer, &ack, first, again].map(Datagram::clone));
-        assert_eq!(courses_of(&packets).0.connections[0].sides[CLIENT].doubled, 1);
+        assert_eq!(course(&courses_of(&packets).0, 0).sides[CLIENT].doubled, 1);
     }
 }
 
@@ -170,7 +174,7 @@ fn captured_twice_far_apart() {
         let more = (0..between).map(|number| data(CLIENT, 5 + number, b"x"));
         let datagrams = opening().into_iter().chain([data(CLIENT, 0, b"first")]).chain(more);
         let packets = in_turn(datagrams.chain([data(CLIENT, 0, b"first")]));
-        assert_eq!(courses_of(&packets).0.connections[0].sides[CLIENT].doubled, doubled);
+        assert_eq!(course(&courses_of(&packets).0, 0).sides[CLIENT].doubled, doubled);
     }
 }
 
@@ -179,7 +183,7 @@ fn captured_twice_far_apart() {
 fn keep_alive() {
     let packets = in_turn(opening().into_iter().chain([data(CLIENT, u32::MAX, b"\0")]));
     let (courses, _) = courses_of(&packets);
-    let course = &courses.connections[0];
+    let course = course(&courses, 0);
     assert_eq!(course.held, [resent(CLIENT, at(4), at(4), 1)]);
     assert_eq!((course.sides[CLIENT].bytes, course.sides[CLIENT].resent), (0, 1));
 }
@@ -194,7 +198,7 @@ fn opened_again() {
     assert_eq!(courses.connections.len(), 2);
     assert_eq!(summary.outcomes.iter().map(|one| one.opening).collect::<Vec<_>>(), [1, 4]);
     assert_eq!(summary.outcomes.iter().map(|one| Some(one.last)).collect::<Vec<_>>(), [at(3), at(5)]);
-    let [first, second] = [&courses.connections[0], &courses.connections[1]];
+    let [first, second] = [course(&courses, 0), course(&courses, 1)];
     assert_eq!((Some(first.syn), first.sides[CLIENT].last, first.sides[SERVER].last), (at(1), at(3), at(2)));
     assert_eq!((Some(second.syn), second.sides[CLIENT].last, second.sides[SERVER].last), (at(4), at(5), None));
     assert_eq!(second.sides[CLIENT].bytes, 17);
@@ -207,7 +211,7 @@ fn times_that_go_back() {
     let back = summary.back.unwrap();
     let first: Vec<_> = back.first.iter().map(|one| (one.arrival.packet, one.arrival.nanos, one.nanos)).collect();
     assert_eq!((first, back.packets, back.nanos, back.packet()), (vec![(2, 10, 20), (4, 20, 5)], 2, 20, 2));
-    assert_eq!(courses.connections[0].ack, Some(Arrival { packet: 3, nanos: 25 }));
+    assert_eq!(course(&courses, 0).ack, Some(Arrival { packet: 3, nanos: 25 }));
     let late = opening().into_iter().cycle().zip(0..30).map(|(one, at)| (100 - at, one));
     let back = courses_of(&late.collect::<Vec<_>>()).1.back.unwrap();
     assert_eq!((back.first.len(), back.packets, back.first[15].arrival.packet), (16, 29, 17));
@@ -225,9 +229,9 @@ fn holes_that_are_filled_last() {
         let begin = Instant::now();
         let (courses, _) = courses_of(&packets);
         assert!(begin.elapsed() < Duration::from_secs(20), "it takes too long");
-        let client = &courses.connections[0].sides[CLIENT];
+        let client = &course(&courses, 0).sides[CLIENT];
         assert_eq!((client.bytes, client.lost), (u64::from(COUNT), None));
-        assert_eq!(courses.connections[0].held, [held(Why::Hole, CLIENT, at(4), at(3 + u64::from(COUNT)))]);
+        assert_eq!(course(&courses, 0).held, [held(Why::Hole, CLIENT, at(4), at(3 + u64::from(COUNT)))]);
     }
 }
 
@@ -242,8 +246,9 @@ fn courses_of_captures() {
         common::import(&path, &keys, Some(&mut courses), bytes).ok().unwrap(); // takes back what was noted
         assert_eq!((&with.0, &with.1), (&without.0, &without.1));
         let openings: Vec<u64> = with.2.outcomes.iter().map(|outcome| outcome.opening).collect();
-        assert_eq!(courses.connections.iter().map(|course| course.syn.packet).collect::<Vec<_>>(), openings);
-        for side in courses.connections.iter().flat_map(|course| &course.sides) {
+        let all = || courses.connections.iter().flatten();
+        assert_eq!(all().map(|course| course.syn.packet).collect::<Vec<_>>(), openings);
+        for side in all().flat_map(|course| &course.sides) {
             assert!(side.doubled <= side.segments && side.last.map_or(side.segments == 0, |last| last.packet > 0));
         }
     }

@@ -8,7 +8,7 @@ use std::path::Path;
 
 use captures::{Arrival, Decoder, Ends, Item, Reader, Source};
 use common::{Each, Made};
-use import::{imported, Asked, Became, Bounds, Courses, Record, Sink};
+use import::{imported, Became, Bounds, Courses, ImportOptions, Record, Sink};
 
 /// A classic capture of this computer's order without the packets of its first half.
 fn second_half(capture: &[u8]) -> Vec<u8> {
@@ -45,7 +45,7 @@ fn tcp_is_told_by_the_packets() {
     let take = |counts: &mut [u64; 2], record: &Record<'_>| counts[usize::from(record.is_made)] += 1;
     let mut listener = Each { state: [0; 2], take };
     let mut sink = Sink::new(&mut made, &mut listener).ok().unwrap();
-    let asked = Asked {
+    let asked = ImportOptions {
         program: "import",
         files: &files,
         key_logs: &key_logs,
@@ -57,7 +57,7 @@ fn tcp_is_told_by_the_packets() {
     let summary = imported(&asked, &mut sink, Some(&mut courses)).ok().unwrap();
     drop(sink);
     assert_eq!((summary.outcomes.len(), summary.joined.len(), courses.connections.len()), (1, 1, 1));
-    let (outcome, course) = (&summary.outcomes[0], &courses.connections[0]);
+    let (outcome, course) = (&summary.outcomes[0], courses.connections[0].as_ref().unwrap());
     let (sums, last) = payloads_in(&path, &outcome.ends);
     assert_eq!([0, 1].map(|side: usize| course.sides[side].bytes), sums);
     assert_eq!([0, 1].map(|side: usize| (course.sides[side].resent, course.sides[side].lost)), [(0, None); 2]);

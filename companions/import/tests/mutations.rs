@@ -9,7 +9,7 @@ use std::fs;
 use std::path::Path;
 use std::time::{Duration, Instant};
 
-use import::{imported, Asked, Bounds, Courses, MapFile, Sink};
+use import::{imported, Bounds, Courses, ImportOptions, MapFile, Sink};
 use mutations::changed;
 use programs::{Failure, Output};
 
@@ -40,7 +40,8 @@ fn import(folder: &Path, how: How) -> Result<Vec<u8>, Failure> {
         let (files, key_logs) = ([OsString::from(folder.join("capture"))], [OsString::from(folder.join("keys"))]);
         let How { is_reordered, is_joined } = how;
         let (program, files, key_logs) = ("import", &files[..], &key_logs[..]);
-        let asked = Asked { program, files, key_logs, is_reordered, is_joined, bounds: BOUNDS, can_repeat: true };
+        let asked =
+            ImportOptions { program, files, key_logs, is_reordered, is_joined, bounds: BOUNDS, can_repeat: true };
         let mut map = MapFile::new(Some(map), is_joined);
         let mut sink = Sink::new(out, &mut map)?;
         imported(&asked, &mut sink, Some(&mut Courses::default()))?;

@@ -38,8 +38,7 @@ fn packets_of(path: &Path) -> Option<Vec<Packet>> {
 fn write<'a>(path: &Path, link: u16, packets: impl IntoIterator<Item = &'a Packet>) {
     let mut writer = pcap::Writer::new(File::create(path).unwrap(), link).unwrap();
     for packet in packets {
-        let time = ((packet.nanos / SECOND) as u32, (packet.nanos % SECOND) as u32);
-        writer.write(time, packet.original, [&packet.data, &[]]).unwrap();
+        writer.write(packet.nanos, packet.original, [&packet.data, &[]]).unwrap();
     }
 }
 
@@ -71,7 +70,8 @@ fn imported(paths: &[&Path], keys: &Path, number: impl Fn(u64) -> u64) -> (Impor
     assert_eq!(summary.back.map(|back| back.packets), None);
     let openings: Vec<_> = summary.outcomes.iter().map(|one| (number(one.opening), one.became.words())).collect();
     let unopened: Vec<_> = summary.unopened.iter().map(|one| (number(one.first.packet), one.segments)).collect();
-    let held: Vec<_> = courses.connections.iter().flat_map(|one| one.held.iter().map(|held| held.begin)).collect();
+    let courses = courses.connections.iter().flatten();
+    let held: Vec<_> = courses.flat_map(|one| one.held.iter().map(|held| held.begin)).collect();
     ((made, arrivals, format!("{openings:?} {unopened:?} {held:?}")), summary.reordered.unwrap())
 }
 

@@ -1,15 +1,12 @@
 //! What is assumed of windows, and how sure that is.
 
-use cutter::Nanos;
+use cutter::{Nanos, FIRST_CREDIT, MOST_CREDIT};
 
-use crate::course::Course;
+use crate::course::JoinedCourse;
 use crate::evidence::{Evidence, LIKELY, OF_WINDOWS, STRONG};
 use crate::usual::is_window;
 use crate::windows::{lent_by, weighed, Sender, Weighed};
 
-/// The credit of a connection at its beginning (RFC 9113, 6.9.2).
-pub const FIRST_CREDIT: i64 = 65_535;
-pub const MOST_CREDIT: i64 = (1 << 31) - 1;
 /// So many bytes may have to be made to bring credits down.
 const MOST_MADE: i64 = 1 << 24;
 
@@ -38,6 +35,13 @@ pub enum Grade {
 }
 
 impl Grade {
+    const ALL: [Grade; 5] = [Grade::Strong, Grade::Likely, Grade::Either, Grade::Broken, Grade::Bound];
+
+    /// What a word of the map says.
+    pub fn of(word: &str) -> Option<Grade> {
+        Grade::ALL.into_iter().find(|grade| grade.word() == word)
+    }
+
     /// As the map says it.
     pub fn word(self) -> &'static str {
         match self {
@@ -79,7 +83,7 @@ pub struct Credits {
 }
 
 /// Credits of a flow, which a side sends. Where nothing may be claimed, all are bounds.
-pub fn credits_of(course: &mut Course, flow: usize, side: usize, may_claim: bool) -> Credits {
+pub fn credits_of(course: &mut JoinedCourse, flow: usize, side: usize, may_claim: bool) -> Credits {
     let sender = &mut course.senders[flow];
     let mut open: Vec<Open> = course.streams.open().map(|(id, stream)| Open::of(id, &stream.windows[flow])).collect();
     open.iter_mut().for_each(|one| one.add_bits(sender));
@@ -137,32 +141,43 @@ struct Open {
 }
 
 impl Open {
-    fn of(id: u32, window: &crate::windows::Window) -> Open {
+    fn of(id: u32, window: &crate::windows::BoundedWindow) -> Open {
         let evidence = window.open.as_deref().cloned().unwrap_or_default();
         Open { id, evidence, is_refused: window.is_refused, least: window.least }
     }
 
-    /// Where all contents, or the bound, are 2^k - 1 bytes, the stream's window is the likely reason.
+    /// Where all contents, or the bound, are 2^k - 1 bytes, the stream's window is the likely reason. If the connection's
+    /// bound is so too, as 65,535 is where it begins, either may be.
     fn add_bits(&mut self, sender: &Sender) {
         for evidence in self.evidence.iter_mut().filter(|one| one.touches > 0) {
             evidence.alone = evidence.if_one_is_little(evidence.alone);
-            if sender.are_windows() || evidence.least().map_or(false, is_window) {
+            if !sender.are_windows() && are_both_windows(evidence, &sender.connection) {
+                evidence.shared += OF_WINDOWS;
+                evidence.lent += OF_WINDOWS;
+            } else if sender.are_windows() || is_bound_of_window(evidence) {
                 evidence.alone += OF_WINDOWS;
             }
         }
     }
 }
 
-/// Likewise of new streams, and where their bound is 2^k - 1; if the connection's is too, either may be the reason.
+fn is_bound_of_window(evidence: &Evidence) -> bool {
+    evidence.least().map_or(false, is_window)
+}
+
+/// Whether the bounds of both are, in the same pauses.
+fn are_both_windows(evidence: &Evidence, connection: &Evidence) -> bool {
+    is_bound_of_window(evidence) && is_bound_of_window(connection) && evidence.of_turn == connection.turn
+}
+
+/// Likewise of new streams.
 fn add_bits_of_windows(sender: &mut Sender) {
     let are_windows = sender.are_windows() && sender.initial.touches > 0;
-    let is_bound = |evidence: &Evidence| evidence.least().map_or(false, is_window);
-    let (initial, connection) = (&mut sender.initial, &mut sender.connection);
-    if !are_windows && is_bound(initial) && is_bound(connection) && initial.of_turn == connection.turn {
+    let (initial, connection) = (&mut sender.initial, &sender.connection);
+    if !are_windows && are_both_windows(initial, connection) {
         initial.shared += OF_WINDOWS;
         initial.lent += OF_WINDOWS;
-        connection.shared += OF_WINDOWS;
-    } else if are_windows || is_bound(initial) {
+    } else if are_windows || is_bound_of_window(initial) {
         initial.alone += OF_WINDOWS;
     }
 }
@@ -267,7 +282,11 @@ impl Concluding<'_> {
             }
             () if evidence.silent >= LIKELY && least <= 0 => {
                 (credit, bits) = (0, evidence.silent);
-                by_bits(bits)
+                if evidence.is_silent_shared {
+                    Grade::Either
+                } else {
+                    by_bits(bits)
+                }
             }
             () => Grade::Bound,
         };

@@ -1,7 +1,9 @@
 //! The beginning that is made up for a connection: what its sides would have sent for its windows and streams to stand as
 //! they did when the capture began.
 
-use crate::assumed::{Credits, FIRST_CREDIT};
+use cutter::FIRST_CREDIT;
+
+use crate::assumed::Credits;
 use crate::frames::{placeholders, Script, HEADER_TABLE_SIZE, INITIAL_WINDOW, MAX_FRAME_SIZE, TABLE};
 
 const CLIENT: usize = 0;
@@ -12,6 +14,7 @@ const HIGH: u32 = 1 << 30;
 const USUAL_FRAME: u32 = 1 << 14;
 
 /// How a connection stood; lists are by sides, 0 being the client.
+#[derive(Clone, Debug)]
 pub struct Stand {
     pub credits: [Credits; 2],
     /// Whether field blocks of a side follow.
@@ -22,16 +25,30 @@ pub struct Stand {
     pub longest: [u32; 2],
     /// SETTINGS that each side acknowledges later.
     pub acknowledged_later: [u32; 2],
+    /// PINGs of the client, which nothing rests on.
+    pub pings: u32,
 }
 
 /// What the sides send.
 pub fn beginning_of(stand: &Stand) -> Script {
     let mut script = Script::default();
-    open_connection(&mut script, stand);
-    let carrier = open_streams(&mut script, stand);
+    write(&mut script, stand);
+    script
+}
+
+/// How many frames each side sends.
+pub fn frames_of(stand: &Stand) -> [u32; 2] {
+    let mut script = Script { is_counted: true, ..Script::default() };
+    write(&mut script, stand);
+    script.frames
+}
+
+fn write(script: &mut Script, stand: &Stand) {
+    open_connection(script, stand);
+    let carrier = open_streams(script, stand);
     for side in [CLIENT, SERVER] {
-        move_streams(&mut script, stand, side);
-        move_connection(&mut script, stand, side, &carrier);
+        move_streams(script, stand, side);
+        move_connection(script, stand, side, &carrier);
     }
     if carrier.is_made {
         carrier.stream.iter().for_each(|stream| [CLIENT, SERVER].iter().for_each(|side| script.end(*side, *stream)));
@@ -40,10 +57,10 @@ pub fn beginning_of(stand: &Stand) -> Script {
         script.settings(1 - side, &[(INITIAL_WINDOW, stand.credits[side].initial as u32)]);
         script.acknowledge(side);
     }
+    (0..stand.pings).for_each(|_| script.ping(CLIENT));
     for side in [CLIENT, SERVER] {
         (0..stand.acknowledged_later[side]).for_each(|_| script.settings(1 - side, &[]));
     }
-    script
 }
 
 fn open_connection(script: &mut Script, stand: &Stand) {
@@ -124,6 +141,7 @@ mod tests {
             first_opened: Some(9),
             longest: [USUAL_FRAME; 2],
             acknowledged_later: [0; 2],
+            pings: 0,
         };
         change(&mut stand);
         beginning_of(&stand)
@@ -132,11 +150,16 @@ mod tests {
     /// Each frame by side, type, stream and length.
     fn frames(script: &Script) -> Vec<(usize, u8, u32, u32)> {
         let mut found = Vec::new();
-        let mut cutters = [CLIENT, SERVER].map(|side| cutter::Cutter::new(side == CLIENT, |_| 0));
+        let mut cutters = [CLIENT, SERVER].map(|side| cutter::Cutter::new(side == CLIENT));
         for (side, bytes) in &script.steps {
-            cutters[*side].take(bytes, 0, |cut| {
-                found.push((*side, cut.head.kind, cut.head.stream, cut.head.length));
-            });
+            cutters[*side].take(
+                bytes,
+                0,
+                |_| 0,
+                |cut| {
+                    found.push((*side, cut.head.kind, cut.head.stream, cut.head.length));
+                },
+            );
         }
         found
     }

@@ -14,11 +14,12 @@ const EARLY: i32 = 32;
 /// The longest frame that is tried first (RFC 9113, 6.5.2), and the longest of all.
 const USUAL_FRAME: u32 = 1 << 14;
 const LONGEST_FRAME: u32 = (1 << 24) - 1;
-const UNKNOWN: i32 = i32::MIN;
-/// Of a chain with a length that is not tried.
-const BROKEN: i32 = i32::MIN + 1;
+/// No header alone is worth more.
+const MOST_ALONE: i32 = 56;
 /// No chain is worth more, nor less.
-const MOST_BITS: i32 = 1 << 30;
+const MOST_BITS: i32 = 1 << 29;
+/// Of a chain with a length that is not tried.
+const BROKEN: i32 = -(1 << 30);
 
 /// Where frames begin, and how sure that is.
 #[derive(Clone, Copy, Debug, PartialEq, Eq)]
@@ -35,10 +36,11 @@ pub fn border_of(bytes: &[u8], is_whole: bool) -> Option<Border> {
 }
 
 fn best(bytes: &[u8], positions: usize, longest: u32, needed: i32) -> Option<Border> {
-    let mut chains = Chains { bytes, longest, known: vec![UNKNOWN; bytes.len()], path: Vec::new() };
+    let mut chains = Chains { bytes, longest, known: vec![0; bytes.len()], path: Vec::new() };
     let mut found: Option<(i32, Border)> = None;
     for at in 0..positions.min(bytes.len().saturating_sub(HEADER - 1)) {
-        let (bits, cost) = (chains.worth(at), cost_of(at));
+        let cost = cost_of(at);
+        let bits = chains.worth(at, needed + cost);
         if bits >= needed + cost && found.map_or(true, |(most, _)| bits - cost > most) {
             found = Some((bits - cost, Border { at, bits: bits as u32 }));
         }
@@ -54,24 +56,50 @@ fn cost_of(at: usize) -> i32 {
 struct Chains<'a> {
     bytes: &'a [u8],
     longest: u32,
-    /// What the chain from a position on is worth.
+    /// What the chain from a position on is worth, doubled and 1 more: 0 is unknown, and costs no memory that is new.
     known: Vec<i32>,
     path: Vec<usize>,
 }
 
 impl Chains<'_> {
-    fn worth(&mut self, from: usize) -> i32 {
+    /// The bits of the chain from a position on, or less than are wanted where it has less. Positions are asked for in
+    /// rising order, and chains lead on, so that only those within a chain are kept.
+    fn worth(&mut self, from: usize, wanted: i32) -> i32 {
+        match self.at_once(from, wanted) {
+            Some(bits) => bits,
+            None => self.along(from),
+        }
+    }
+
+    /// What a chain is worth whose second header is known, or is not there.
+    fn at_once(&self, from: usize, wanted: i32) -> Option<i32> {
+        let header = header_at(self.bytes, from)?;
+        let length = Head::of(header).length;
+        if length > self.longest {
+            return Some(BROKEN);
+        }
+        let next = from + HEADER + length as usize;
+        let rest = match self.known_at(next) {
+            Some(bits) => bits,
+            None if header_at(self.bytes, next).is_some() => return None,
+            None => 0,
+        };
+        let is_in_vain = rest == BROKEN || rest + MOST_ALONE < wanted;
+        Some(if is_in_vain { BROKEN } else { (rest + worth_of(header)).clamp(-MOST_BITS, MOST_BITS) })
+    }
+
+    fn known_at(&self, at: usize) -> Option<i32> {
+        self.known.get(at).filter(|known| **known != 0).map(|known| known >> 1)
+    }
+
+    fn along(&mut self, from: usize) -> i32 {
         self.path.clear();
         let mut at = from;
         let mut bits = loop {
-            match self.known.get(at) {
-                None => break 0,
-                Some(&UNKNOWN) => {}
-                Some(known) => break *known,
-            }
-            let header = match header_at(self.bytes, at) {
-                None => break 0,
-                Some(header) => header,
+            let header = match (self.known_at(at), header_at(self.bytes, at)) {
+                (Some(known), _) => break known,
+                (None, None) => break 0,
+                (None, Some(header)) => header,
             };
             let length = Head::of(header).length;
             self.path.push(at);
@@ -84,7 +112,7 @@ impl Chains<'_> {
             if let (true, Some(header)) = (bits != BROKEN, header_at(self.bytes, *at)) {
                 bits = (bits + worth_of(header)).clamp(-MOST_BITS, MOST_BITS);
             }
-            self.known[*at] = bits;
+            self.known[*at] = bits * 2 + 1;
         }
         bits
     }
@@ -94,65 +122,72 @@ fn header_at(bytes: &[u8], at: usize) -> Option<&[u8; HEADER]> {
     bytes.get(at..at + HEADER)?.try_into().ok()
 }
 
+/// What frames of a type are worth.
+struct Rule {
+    kind: i32,
+    /// Which flags it may have, and what having no other one is worth.
+    flags: u8,
+    without_others: i32,
+    /// The one length that it may have, and what another one is worth.
+    length: Option<u32>,
+    /// On no stream, and on one; where none is told, that is worth the more, the lower its number is.
+    without_stream: i32,
+    with_stream: Option<i32>,
+}
+
+const WRONG_LENGTH: i32 = -8;
+const WRONG_FLAGS: i32 = -6;
+/// On streams alone, on the connection alone, and on either.
+const STREAM: (i32, Option<i32>) = (-30, None);
+const CONNECTION: (i32, Option<i32>) = (24, Some(-10));
+const EITHER: (i32, Option<i32>) = (24, None);
+
+const fn rule(flags: u8, length: Option<u32>, (without_stream, with_stream): (i32, Option<i32>)) -> Rule {
+    let without_others = 8 - flags.count_ones() as i32;
+    Rule { kind: 5, flags, without_others, length, without_stream, with_stream }
+}
+
+/// By types, from DATA to CONTINUATION. Zeros, which look like DATA, are common.
+const RULES: [Rule; 10] = [
+    Rule { kind: 2, ..rule(flag::END_STREAM | flag::PADDED, None, STREAM) },
+    rule(flag::END_STREAM | flag::END_HEADERS | flag::PADDED | flag::PRIORITY, None, STREAM),
+    rule(0, Some(5), STREAM),
+    rule(0, Some(4), STREAM),
+    rule(flag::ACK, None, CONNECTION),
+    rule(flag::END_HEADERS | flag::PADDED, None, STREAM),
+    rule(flag::ACK, Some(8), CONNECTION),
+    rule(0, None, CONNECTION),
+    rule(0, Some(4), EITHER),
+    rule(flag::END_HEADERS, None, STREAM),
+];
+/// Of a type that is not known, which may have all flags.
+const UNKNOWN_KIND: Rule = Rule { kind: -4, without_others: 0, ..rule(0xff, None, (20, None)) };
+
 /// The bits that a header is worth; below 0 where it is unusual.
 fn worth_of(header: &[u8; HEADER]) -> i32 {
     let head = Head::of(header);
+    let rule = RULES.get(usize::from(head.kind)).unwrap_or(&UNKNOWN_KIND);
+    let flags = if head.flags & !rule.flags == 0 { rule.without_others } else { WRONG_FLAGS };
     let reserved = if header[5] & 0x80 == 0 { 1 } else { -4 };
-    kind_bits(head.kind) + length_bits(&head) + flag_bits(&head) + stream_bits(&head) + reserved
-}
-
-fn kind_bits(of: u8) -> i32 {
-    match of {
-        kind::DATA => 2, // zeros are common
-        kind::HEADERS..=kind::CONTINUATION => 5,
-        _ => -4,
-    }
-}
-
-fn length_bits(head: &Head) -> i32 {
-    const WRONG: i32 = -8;
-    let fixed = |length| if head.length == length { 18 } else { WRONG };
-    match head.kind {
-        kind::RST_STREAM | kind::WINDOW_UPDATE => fixed(4),
-        kind::PING => fixed(8),
-        kind::PRIORITY => fixed(5),
-        kind::SETTINGS if head.has(flag::ACK) => fixed(0),
-        kind::SETTINGS if head.length % 6 == 0 && head.length <= 192 => 14,
-        kind::SETTINGS => WRONG,
-        kind::GOAWAY if head.length < 8 => WRONG,
-        _ if head.length > USUAL_FRAME => WRONG - 2,
-        kind::DATA if head.length == 0 => 4,
-        _ => 10,
-    }
-}
-
-fn flag_bits(head: &Head) -> i32 {
-    let used: u8 = match head.kind {
-        kind::DATA => flag::END_STREAM | flag::PADDED,
-        kind::HEADERS => flag::END_STREAM | flag::END_HEADERS | flag::PADDED | flag::PRIORITY,
-        kind::SETTINGS | kind::PING => flag::ACK,
-        kind::PUSH_PROMISE => flag::END_HEADERS | flag::PADDED,
-        kind::CONTINUATION => flag::END_HEADERS,
-        kind::PRIORITY | kind::RST_STREAM | kind::GOAWAY | kind::WINDOW_UPDATE => 0,
-        _ => return 0,
+    let stream = match rule.with_stream {
+        _ if head.stream == 0 => rule.without_stream,
+        Some(bits) => bits,
+        None => (27 - (u32::BITS - head.stream.leading_zeros()) as i32).clamp(0, 20),
     };
-    if head.flags & !used == 0 {
-        (8 - used.count_ones()) as i32
-    } else {
-        -6
-    }
+    rule.kind + length_bits(&head, rule) + flags + stream + reserved
 }
 
-fn stream_bits(head: &Head) -> i32 {
-    let magnitude = (u32::BITS - head.stream.leading_zeros()) as i32;
-    let of_stream = (27 - magnitude).clamp(0, 20);
-    match (head.kind, head.stream) {
-        (kind::SETTINGS | kind::PING | kind::GOAWAY, 0) => 24,
-        (kind::SETTINGS | kind::PING | kind::GOAWAY, _) => -10,
-        (kind::WINDOW_UPDATE, 0) => 24,
-        (kind::DATA | kind::HEADERS | kind::PRIORITY | kind::RST_STREAM, 0) => -30,
-        (kind::PUSH_PROMISE | kind::CONTINUATION, 0) => -30,
-        _ => of_stream,
+fn length_bits(head: &Head, rule: &Rule) -> i32 {
+    match (rule.length, head.kind) {
+        (Some(length), _) if head.length == length => 18,
+        (Some(_), _) => WRONG_LENGTH,
+        (None, kind::SETTINGS) if head.has(flag::ACK) => [WRONG_LENGTH, 18][usize::from(head.length == 0)],
+        (None, kind::SETTINGS) if head.length % 6 == 0 && head.length <= 192 => 14,
+        (None, kind::SETTINGS) => WRONG_LENGTH,
+        (None, kind::GOAWAY) if head.length < 8 => WRONG_LENGTH,
+        _ if head.length > USUAL_FRAME => WRONG_LENGTH - 2,
+        (None, kind::DATA) if head.length == 0 => 4,
+        _ => 10,
     }
 }
 
@@ -211,6 +246,20 @@ mod tests {
                 assert_eq!(place(&bytes.concat()), Some(rest), "{content} {rest}");
             }
         }
+    }
+
+    #[test]
+    fn what_a_header_alone_is_worth() {
+        let mut most = 0;
+        for kind in 0..=u8::MAX {
+            for length in [0, 4, 5, 6, 8, 16_384, 16_385] {
+                for (flags, stream) in [0, 1, 4, 5, 0xff].into_iter().flat_map(|flags| [(flags, 0), (flags, 1)]) {
+                    let header = frame(kind, flags, stream, &vec![0; length]);
+                    most = most.max(worth_of(header_at(&header, 0).unwrap()));
+                }
+            }
+        }
+        assert_eq!(most, MOST_ALONE);
     }
 
     #[test]

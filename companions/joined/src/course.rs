@@ -2,13 +2,14 @@
 
 use std::collections::VecDeque;
 
+use captures::Arrival;
 use cutter::{flag, kind, Cut, Head, Nanos};
 use hpack::{speaker, Speaker};
 
 use crate::incoming::Given;
 use crate::sides::Sides;
 use crate::streams::Streams;
-use crate::windows::{Content, Sender, Window};
+use crate::windows::{BoundedWindow, Content, Sender};
 
 /// So much of a field block is looked at, and of SETTINGS.
 const FRONT: usize = 256;
@@ -31,7 +32,7 @@ pub fn wants(head: &Head) -> usize {
 }
 
 /// All that is known, by the flow that sends.
-pub struct Course {
+pub struct JoinedCourse {
     pub sides: Sides,
     pub streams: Streams,
     pub senders: [Sender; 2],
@@ -39,6 +40,8 @@ pub struct Course {
     waiting: [VecDeque<Option<u32>>; 2],
     /// Acknowledgements of SETTINGS from before the beginning.
     pub acknowledged_before: [u32; 2],
+    /// Where the last byte came of the frame that the cut divides.
+    pub divided: [Option<Arrival>; 2],
     /// The longest frame.
     pub longest: [u32; 2],
     /// Whether a flow has field blocks.
@@ -46,14 +49,15 @@ pub struct Course {
     pub frames: u64,
 }
 
-impl Course {
-    pub fn new(beginning: Nanos) -> Course {
-        Course {
+impl JoinedCourse {
+    pub fn new(beginning: Nanos) -> JoinedCourse {
+        JoinedCourse {
             sides: Sides::default(),
             streams: Streams::new(beginning),
             senders: [Sender::new(beginning), Sender::new(beginning)],
             waiting: Default::default(),
             acknowledged_before: [0; 2],
+            divided: [None; 2],
             longest: [USUAL_FRAME; 2],
             has_blocks: [false; 2],
             frames: 0,
@@ -61,46 +65,62 @@ impl Course {
     }
 
     /// Takes what comes of a flow.
+    #[inline]
     pub fn take(&mut self, flow: usize, given: Given<'_, '_>) {
         match given {
-            Given::Begins(time) => {
-                self.senders[flow] = Sender::new(time);
-                self.streams.begins(flow, time);
-            }
+            Given::Begins(last) => self.begins(flow, last),
             Given::Frame(cut) => self.frame(flow, cut),
         }
     }
 
+    #[inline(never)]
+    fn begins(&mut self, flow: usize, last: Arrival) {
+        self.senders[flow] = Sender::new(last.nanos);
+        self.streams.begins(flow, last.nanos);
+        self.divided[flow] = Some(last);
+    }
+
+    /// Most frames are content and grants.
     fn frame(&mut self, flow: usize, cut: &Cut<'_>) {
         self.frames += 1;
         self.longest[flow] = self.longest[flow].max(cut.head.length);
         let first = cut.times.first().copied().unwrap_or_default();
         let last = cut.times.last().copied().unwrap_or(first);
-        self.has_blocks[flow] |= matches!(cut.head.kind, kind::HEADERS | kind::PUSH_PROMISE);
         match cut.head.kind {
-            kind::DATA => self.content(flow, cut, first, last),
+            kind::DATA => self.content(flow, cut.head, first, last),
+            kind::WINDOW_UPDATE => self.grant(flow, cut, last),
+            _ => self.other(flow, cut, last),
+        }
+    }
+
+    #[inline(never)]
+    fn other(&mut self, flow: usize, cut: &Cut<'_>, last: Nanos) {
+        match cut.head.kind {
             kind::HEADERS => self.headers(flow, cut, last),
             kind::PRIORITY => self.sides.priority(flow),
             kind::RST_STREAM => self.reset(flow, cut),
             kind::SETTINGS => self.settings(flow, cut, last),
             kind::PUSH_PROMISE => self.promise(flow, cut),
             kind::GOAWAY => self.go_away(flow, cut),
-            kind::WINDOW_UPDATE => self.grant(flow, cut, last),
             _ => {}
         }
     }
 
-    fn content(&mut self, flow: usize, cut: &Cut<'_>, first: Nanos, last: Nanos) {
-        let Head { length, stream, .. } = cut.head;
-        let is_end = cut.head.has(flag::END_STREAM);
+    #[inline]
+    fn content(&mut self, flow: usize, head: Head, first: Nanos, last: Nanos) {
+        let Head { length, stream, .. } = head;
+        let is_end = head.has(flag::END_STREAM);
         self.sides.content(flow, length);
-        let mut found = self.streams.get(stream);
+        let (own, other) = match self.streams.get(stream).map(|found| &mut found.windows) {
+            Some([own, other]) if flow == 0 => (Some(own), Some(other)),
+            Some([other, own]) => (Some(own), Some(other)),
+            None => (None, None),
+        };
         if length > 0 {
-            let window = found.as_mut().map(|found| &mut found.windows[flow]);
-            self.senders[flow].content(window, Content { first, last, length, is_end });
+            self.senders[flow].content(own, Content { first, last, length, is_end });
         }
-        if let Some(found) = found {
-            found.windows[1 - flow].spoken(last);
+        if let Some(other) = other {
+            other.spoken(last);
         }
         if is_end {
             self.streams.end(stream, &[flow]);
@@ -109,11 +129,10 @@ impl Course {
 
     fn headers(&mut self, flow: usize, cut: &Cut<'_>, last: Nanos) {
         let stream = cut.head.stream;
-        let fields = if cut.head.has(flag::PRIORITY) { 5 } else { 0 };
-        let said = speaker_of(cut, fields);
-        self.sides.block(flow, said);
+        self.has_blocks[flow] = true;
+        let said = self.said_by(flow, cut);
         if self.opens(flow, stream, said) {
-            self.streams.begin(stream, [Window::opened(true), Window::opened(true)]);
+            self.streams.begin(stream, [BoundedWindow::opened(true), BoundedWindow::opened(true)]);
         }
         if let Some(found) = self.streams.get(stream) {
             found.windows[1 - flow].spoken(last);
@@ -123,20 +142,32 @@ impl Course {
         }
     }
 
+    /// Who says a block, as long as that tells anything.
+    fn said_by(&mut self, flow: usize, cut: &Cut<'_>) -> Option<Speaker> {
+        if self.sides.knows_fields() && self.streams.first_opened().is_some() {
+            return None;
+        }
+        let said = speaker_of(cut, if cut.head.has(flag::PRIORITY) { 5 } else { 0 });
+        self.sides.block(flow, said);
+        said
+    }
+
     /// Whether HEADERS open a stream: as a request, or above all streams where only the dynamic table knows their fields.
     fn opens(&self, flow: usize, stream: u32, said: Option<Speaker>) -> bool {
         let is_client = self.sides.is_client(flow) == Some(true);
         let is_request = said == Some(Speaker::Client);
-        is_client && stream % 2 == 1 && !self.streams.is_known(stream) && {
-            let may_open = self.streams.may_open(stream);
-            match self.streams.first_opened() {
-                None => is_request || said.is_none() && may_open,
+        let may_open = self.streams.may_open(stream);
+        is_client
+            && stream % 2 == 1
+            && match self.streams.first_opened() {
+                None => (is_request || said.is_none() && may_open) && !self.streams.is_known(stream),
+                // It is above all that were met.
                 Some(_) => may_open,
             }
-        }
     }
 
     fn promise(&mut self, flow: usize, cut: &Cut<'_>) {
+        self.has_blocks[flow] = true;
         self.sides.promise(flow);
         let promised = match cut.body(4).and_then(|(begin, _)| cut.payload.get(begin - 4..begin)) {
             Some(&[a, b, c, d]) => u32::from_be_bytes([a & 0x7f, b, c, d]),
@@ -144,7 +175,7 @@ impl Course {
         };
         self.streams.get(cut.head.stream);
         if promised > 0 && promised % 2 == 0 && self.streams.may_open(promised) {
-            let windows = [0, 1].map(|of| Window::opened(of == flow));
+            let windows = [0, 1].map(|of| BoundedWindow::opened(of == flow));
             self.streams.begin(promised, windows);
             self.streams.end(promised, &[1 - flow]);
         }
@@ -215,12 +246,12 @@ fn speaker_of(cut: &Cut<'_>, fields: usize) -> Option<Speaker> {
 mod tests {
     use super::*;
 
-    fn taken(course: &mut Course, flow: usize, kind: u8, flags: u8, stream: u32, payload: &[u8]) {
+    fn taken(course: &mut JoinedCourse, flow: usize, kind: u8, flags: u8, stream: u32, payload: &[u8]) {
         let head = Head { length: payload.len() as u32, kind, flags, stream };
-        course.take(flow, Given::Frame(&Cut { head, payload, times: &[0] }));
+        course.take(flow, Given::Frame(&Cut { head, payload, times: &[0], arrived: &[] }));
     }
 
-    fn open_ones(course: &Course) -> Vec<u32> {
+    fn open_ones(course: &JoinedCourse) -> Vec<u32> {
         course.streams.open().map(|(id, _)| id).collect()
     }
 
@@ -228,7 +259,7 @@ mod tests {
 
     #[test]
     fn requests_open_streams() {
-        let mut course = Course::new(0);
+        let mut course = JoinedCourse::new(0);
         taken(&mut course, 0, kind::DATA, 0, 5, &[0; 9]);
         taken(&mut course, 1, kind::HEADERS, flag::END_STREAM, 7, REQUEST);
         taken(&mut course, 0, kind::HEADERS, 0, 7, b"\x88");
@@ -242,7 +273,7 @@ mod tests {
     /// HEADERS of the client below what was met are trailers, unless they are a request.
     #[test]
     fn trailers_open_none() {
-        let mut course = Course::new(0);
+        let mut course = JoinedCourse::new(0);
         taken(&mut course, 0, kind::PRIORITY, 0, 3, &[0; 5]);
         taken(&mut course, 0, kind::DATA, 0, 9, &[0; 9]);
         taken(&mut course, 0, kind::HEADERS, flag::END_STREAM, 5, b"\xbe");
@@ -254,7 +285,7 @@ mod tests {
 
     #[test]
     fn promises_open_streams() {
-        let mut course = Course::new(0);
+        let mut course = JoinedCourse::new(0);
         taken(&mut course, 1, kind::PUSH_PROMISE, flag::END_HEADERS, 1, b"\0\0\0\x04\x82");
         assert_eq!((course.sides.is_client(0), open_ones(&course)), (Some(true), vec![1]));
         taken(&mut course, 1, kind::DATA, 0, 4, &[0; 7]);
@@ -265,7 +296,7 @@ mod tests {
 
     #[test]
     fn acknowledgements_of_settings_from_before() {
-        let mut course = Course::new(0);
+        let mut course = JoinedCourse::new(0);
         taken(&mut course, 0, kind::SETTINGS, flag::ACK, 0, b"");
         taken(&mut course, 1, kind::SETTINGS, 0, 0, &[0, 4, 0, 0, 0, 9]);
         taken(&mut course, 0, kind::SETTINGS, flag::ACK, 0, b"");
@@ -276,7 +307,7 @@ mod tests {
 
     #[test]
     fn errors_of_flow_control() {
-        let mut course = Course::new(0);
+        let mut course = JoinedCourse::new(0);
         taken(&mut course, 0, kind::RST_STREAM, 0, 3, &[0, 0, 0, 3]);
         taken(&mut course, 1, kind::GOAWAY, 0, 0, &[0, 0, 0, 3, 0, 0, 0, 3]);
         assert_eq!([0, 1].map(|flow| course.senders[flow].is_refused), [true, false]);
@@ -287,7 +318,7 @@ mod tests {
 
     #[test]
     fn the_longest_frame() {
-        let mut course = Course::new(0);
+        let mut course = JoinedCourse::new(0);
         taken(&mut course, 1, kind::DATA, 0, 1, &[0; 20_000]);
         assert_eq!(course.longest, [16_384, 20_000]);
     }

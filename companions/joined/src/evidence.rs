@@ -49,6 +49,12 @@ impl Pause {
         self.granted.get_or_insert(time);
     }
 
+    /// From when to when it was one, where a grant ended it.
+    #[inline]
+    pub fn ended(&self) -> Option<(Nanos, Nanos)> {
+        Some((self.since, self.granted?))
+    }
+
     /// Whether content that comes then ends a pause that a grant ended; `spoken` is when the other side sent something
     /// else that the content may answer.
     pub fn touch(&self, content: Nanos, spoken: Option<Nanos>) -> Option<Touch> {
@@ -74,7 +80,7 @@ pub struct Touch {
 
 impl Touch {
     /// Whether content followed the grant at once.
-    fn is_soon(&self) -> bool {
+    pub fn is_soon(&self) -> bool {
         self.delay <= SOON.max(self.pause / 2)
     }
 
@@ -124,20 +130,26 @@ pub struct Evidence {
     last: Option<u32>,
     has_short: bool,
     slow: u8,
-    /// Bits that it was used up when the capture began.
+    /// Bits that it was used up when the capture began; and whether another window was granted in that silence too.
     pub silent: f64,
+    pub is_silent_shared: bool,
     /// A bound that was passed, and its bits.
     pub passed: Option<(i64, f64)>,
 }
 
 impl Evidence {
     /// Content brought the credit here. Answers whether that is its bound, and whether a new one.
+    #[inline]
     pub fn content(&mut self, before: i64, after: i64) -> Bound {
         match self.low {
-            Some(low) if after > low => return Bound::None,
-            Some(low) if after == low => return Bound::Old,
-            _ => {}
+            Some(low) if after > low => Bound::None,
+            Some(low) if after == low => Bound::Old,
+            _ => self.new_bound(before, after),
         }
+    }
+
+    #[inline(never)]
+    fn new_bound(&mut self, before: i64, after: i64) -> Bound {
         if self.touches == 0 && self.silent == 0.0 {
             self.low = Some(after);
             self.before = before;
@@ -150,8 +162,8 @@ impl Evidence {
             _ => self.passed,
         };
         let silent = if after >= 0 { self.silent } else { 0.0 };
-        let turn = self.turn.wrapping_add(1);
-        *self = Evidence { low: Some(after), before, silent, passed, turn, ..Evidence::default() };
+        let (turn, is_silent_shared) = (self.turn.wrapping_add(1), self.is_silent_shared);
+        *self = Evidence { low: Some(after), before, silent, is_silent_shared, passed, turn, ..Evidence::default() };
         Bound::New
     }
 

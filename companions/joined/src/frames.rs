@@ -20,10 +20,15 @@ pub struct Script {
     /// How many frames each side sends, and how many bytes.
     pub frames: [u32; 2],
     pub bytes: [u32; 2],
+    /// Whether frames are counted alone.
+    pub is_counted: bool,
 }
 
 impl Script {
     fn put(&mut self, side: usize, bytes: &[u8]) {
+        if self.is_counted {
+            return;
+        }
         self.bytes[side] += bytes.len() as u32;
         match self.steps.last_mut() {
             Some((last, all)) if *last == side => all.extend_from_slice(bytes),
@@ -53,6 +58,10 @@ impl Script {
 
     pub fn acknowledge(&mut self, side: usize) {
         self.frame(side, (kind::SETTINGS, flag::ACK), 0, &[]);
+    }
+
+    pub fn ping(&mut self, side: usize) {
+        self.frame(side, (kind::PING, 0), 0, &[0; 8]);
     }
 
     pub fn headers(&mut self, side: usize, stream: u32, block: &[u8]) {

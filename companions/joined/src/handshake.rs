@@ -16,7 +16,15 @@ pub struct Made {
     pub datagram: Vec<u8>,
 }
 
+impl Made {
+    /// The number of the segment.
+    pub fn sequence(&self) -> u32 {
+        u32::from_be_bytes([self.datagram[24], self.datagram[25], self.datagram[26], self.datagram[27]])
+    }
+}
+
 /// The ends of what the client sends, and the next number of each side.
+#[derive(Clone, Copy, Debug)]
 pub struct Numbers {
     pub ends: Ends,
     pub next: [u32; 2],

@@ -1,7 +1,7 @@
 //! The bytes of both flows in the order in which they came, which wait until the first frame of each is known.
 
-use captures::{placed, Arrival, Flow};
-use cutter::{Cut, Cutter, Nanos};
+use captures::{placed, Arrival, Flow, END_OF_OFFSETS};
+use cutter::{Cut, Cutter};
 
 use crate::border::{border_of, is_tls, Border};
 use crate::course::wants;
@@ -12,6 +12,8 @@ pub const MOST_WAITING: usize = 1 << 20;
 const MOST_UNKNOWN: usize = 1 << 16;
 /// A border is looked for when so many bytes are there, and again whenever they are twice as many.
 const FIRST_LOOK: usize = 13;
+/// So much waits behind a hole though the other side has what is missing: packets may be in wrong order.
+const MOST_BEHIND_HOLE: usize = 1 << 16;
 /// So many bytes may show that they are TLS.
 const OF_TLS: usize = 1 << 12;
 
@@ -41,9 +43,35 @@ pub struct Incoming {
     is_tls: bool,
     /// How many bytes came before those that wait.
     gone: u32,
+    /// The other side has what is missing here, so that it is not waited for; and whether it came all the same.
+    is_lost: bool,
+    is_late: bool,
 }
 
 impl Incoming {
+    /// How many bytes wait, for a border or behind a hole.
+    #[inline]
+    pub fn waiting(&self) -> usize {
+        self.bytes.capacity() + self.flow.cost()
+    }
+
+    /// Whether bytes came late that were not waited for any longer.
+    pub fn is_late(&self) -> bool {
+        self.is_late
+    }
+
+    /// The other side acknowledges what was sent before this number: what is missing of that will hardly be sent again.
+    pub fn acknowledged(&mut self, number: u32) {
+        if self.flow.cost() < MOST_BEHIND_HOLE {
+            return;
+        }
+        let offset = self.initial.map_or(0, |initial| number.wrapping_sub(initial).wrapping_sub(1));
+        if offset > self.flow.next() && offset < END_OF_OFFSETS {
+            self.flow.lose();
+            self.is_lost = true;
+        }
+    }
+
     /// Where the first frame begins, and how sure that is.
     pub fn border(&self) -> Option<(u32, u32)> {
         self.border.map(|border| (border.at as u32, border.bits))
@@ -69,15 +97,15 @@ impl Incoming {
 
 /// What is given of a flow.
 pub enum Given<'a, 'b> {
-    /// Its first frame begins behind bytes that came at this time: a frame that was cut.
-    Begins(Nanos),
+    /// Its first frame begins behind bytes of which the last came then: a frame that was cut.
+    Begins(Arrival),
     Frame(&'a Cut<'b>),
 }
 
 /// Bytes that came together.
 struct Mark {
     flow: usize,
-    time: Nanos,
+    arrival: Arrival,
     length: usize,
 }
 
@@ -92,7 +120,7 @@ pub struct Both {
 
 impl Default for Both {
     fn default() -> Both {
-        let cutters = [0, 1].map(|_| Cutter::new(false, wants));
+        let cutters = [0, 1].map(|_| Cutter::new(false));
         Both { flows: Default::default(), cutters, marks: Vec::new(), goes_on: false }
     }
 }
@@ -112,17 +140,18 @@ impl Both {
             Some(placed) => placed,
             None => return,
         };
+        one.is_late |= one.is_lost && offset <= one.flow.next() && offset as usize + data.len() > one.length() as usize;
         let data = one.flow.add(offset, data, piece.arrival);
         let time = piece.arrival.nanos;
         if data.is_empty() {
             return;
         }
         if self.goes_on && one.border.is_some() {
-            self.cutters[flow].take(&data, time, |cut| give(flow, Given::Frame(cut)));
+            self.cutters[flow].take(&data, time, wants, |cut| give(flow, Given::Frame(cut)));
             return;
         }
         one.bytes.extend_from_slice(&data);
-        self.marks.push(Mark { flow, time, length: data.len() });
+        self.marks.push(Mark { flow, arrival: piece.arrival, length: data.len() });
         one.look(false);
         let is_full = one.bytes.len() >= MOST_WAITING;
         if self.flows.iter().all(|one| one.border.is_some()) || is_full {
@@ -131,12 +160,14 @@ impl Both {
     }
 
     /// Whether much came, and no border of either flow is known.
+    #[inline]
     pub fn has_no_frames(&self) -> bool {
-        let has_much = self.flows.iter().any(|one| one.bytes.len() >= MOST_UNKNOWN);
-        !self.goes_on && has_much && self.flows.iter().all(|one| one.border.is_none())
+        let has_much = || self.flows.iter().any(|one| one.bytes.len() >= MOST_UNKNOWN);
+        !self.goes_on && has_much() && self.flows.iter().all(|one| one.border.is_none())
     }
 
     /// Whether what came cannot be HTTP/2: it is TLS.
+    #[inline]
     pub fn is_tls(&self) -> bool {
         self.flows.iter().any(|one| one.is_tls)
     }
@@ -158,7 +189,7 @@ impl Both {
                 end += mark.length;
                 end >= rest
             });
-            last.iter().for_each(|mark| give(flow, Given::Begins(mark.time)));
+            last.iter().for_each(|mark| give(flow, Given::Begins(mark.arrival)));
         }
     }
 
@@ -170,7 +201,7 @@ impl Both {
         self.goes_on = true;
         self.begin_flows(give);
         let mut places = [0; 2];
-        for Mark { flow, time, length } in std::mem::take(&mut self.marks) {
+        for Mark { flow, arrival, length } in std::mem::take(&mut self.marks) {
             let one = &self.flows[flow];
             let begin = places[flow];
             places[flow] += length;
@@ -179,7 +210,7 @@ impl Both {
                 None => continue,
             };
             let bytes = &one.bytes[begin.max(border).min(begin + length)..begin + length];
-            self.cutters[flow].take(bytes, time, |cut| give(flow, Given::Frame(cut)));
+            self.cutters[flow].take(bytes, arrival.nanos, wants, |cut| give(flow, Given::Frame(cut)));
         }
         for one in &mut self.flows {
             one.gone += one.bytes.len() as u32;
@@ -246,7 +277,7 @@ mod tests {
         taken(&mut both, 0, 3, b"st");
         taken(&mut both, 0, 5, &frame(5, 100).repeat(2));
         let mut times = Vec::new();
-        both.finish(|_, given| times.extend(if let Given::Begins(time) = given { Some(time) } else { None }));
+        both.finish(|_, given| times.extend(if let Given::Begins(last) = given { Some(last.nanos) } else { None }));
         assert_eq!(times, [3]);
     }
 

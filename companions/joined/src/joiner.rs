@@ -1,23 +1,21 @@
 //! Joins one connection.
 
-use std::collections::VecDeque;
-
 use captures::{flags, swapped, Arrival, Ends};
 use cutter::Nanos;
 
 use crate::assumed::{credits_of, Assumed};
-use crate::beginning::{beginning_of, Stand};
-use crate::course::Course;
+use crate::beginning::{beginning_of, frames_of, Stand};
+use crate::course::JoinedCourse;
+use crate::doubles::Doubles;
 use crate::first_bytes::{are_first, FRONT};
 use crate::handshake::{records_of, Made, Numbers};
 use crate::incoming::{Both, Piece};
-use crate::sides::Told;
+use crate::sides::SideEvidence;
 use crate::unjoined::Unjoined;
 
 pub const CLIENT: usize = 0;
 pub const SERVER: usize = 1;
-/// A packet that was captured twice stands so close to its double; and of so many, one may.
-const MOST_BETWEEN: usize = 8;
+/// Of so many packets one may stand twice.
 const FEW: u64 = 10;
 
 /// How a connection was joined.
@@ -37,7 +35,7 @@ pub enum How {
 #[derive(Clone, Debug, PartialEq, Eq)]
 pub struct Inferred {
     /// How the sides are told apart.
-    pub sides: Told,
+    pub sides: SideEvidence,
     /// The first frame of each side, where it has one.
     pub borders: [Option<Border>; 2],
     /// How many frames each side has in the beginning.
@@ -48,6 +46,9 @@ pub struct Inferred {
     pub longest: [u32; 2],
     /// When each side first acknowledged an initial window that was seen: from then on it is known of streams that opened.
     pub changed: [Option<Nanos>; 2],
+    /// Where the last byte came of the frame of each side that the cut divides: what goes on since before the capture may
+    /// have begun with that.
+    pub divided: [Option<Arrival>; 2],
     /// The streams that were open, in rising order.
     pub open: Vec<u32>,
     /// Whether nothing may be claimed: times go back, or packets stand twice.
@@ -62,14 +63,36 @@ pub struct Border {
 }
 
 /// A connection, and what is made up for it.
-#[derive(Clone, Debug, PartialEq, Eq)]
+#[derive(Clone, Debug)]
 pub struct Joined {
     /// The first packet of it.
     pub first: Arrival,
     /// Of what the client sends.
     pub ends: Ends,
     pub how: How,
-    pub records: Vec<Made>,
+    numbers: Numbers,
+    /// How it stood, where that is inferred.
+    stand: Option<Box<Stand>>,
+}
+
+impl Joined {
+    /// The records that are made up. They are large, and so are not kept.
+    pub fn records(&self) -> Vec<Made> {
+        match (&self.stand, &self.how) {
+            (Some(stand), _) => records_of(&beginning_of(stand), &self.numbers),
+            (None, how) => self.numbers.handshake(*how != How::Syn),
+        }
+    }
+
+    /// The same with another number of the SYN, where something is inferred: a SYN with the number of the one before it
+    /// would open no connection.
+    pub fn other_records(&mut self) -> Vec<Made> {
+        if let (Some(stand), How::Inferred(inferred)) = (&mut self.stand, &mut self.how) {
+            stand.pings += 1;
+            inferred.made = frames_of(stand);
+        }
+        self.records()
+    }
 }
 
 /// Joins the connection of two endpoints, of whose flows the first is the one that was seen first.
@@ -77,7 +100,7 @@ pub struct Joiner {
     first: Arrival,
     ends: Ends,
     both: Both,
-    course: Course,
+    course: JoinedCourse,
     fronts: [Vec<u8>; 2],
     /// By whom a SYN was answered before any payload, with the number that it acknowledges.
     answered: Option<(usize, u32)>,
@@ -90,9 +113,11 @@ pub struct Joiner {
     acknowledged: [Option<u32>; 2],
     last: i64,
     goes_back: bool,
-    recent: [VecDeque<(u32, usize, u16)>; 2],
-    segments: u64,
-    doubled: u64,
+    doubles: [Doubles; 2],
+    /// Whether it goes on behind a gap, so that no first bytes are looked for; and whose flow is known to be the
+    /// client's.
+    is_behind: bool,
+    client: Option<usize>,
 }
 
 impl Joiner {
@@ -102,7 +127,7 @@ impl Joiner {
             first,
             ends,
             both: Both::default(),
-            course: Course::new(first.nanos),
+            course: JoinedCourse::new(first.nanos),
             fronts: Default::default(),
             answered: None,
             has_payload: false,
@@ -111,13 +136,34 @@ impl Joiner {
             acknowledged: [None; 2],
             last: first.nanos,
             goes_back: false,
-            recent: Default::default(),
-            segments: 0,
-            doubled: 0,
+            doubles: Default::default(),
+            is_behind: false,
+            client: None,
         }
     }
 
+    /// Of what follows a gap of either flow, from these numbers of both on. The client's flow may be known from before.
+    pub fn behind(first: Arrival, ends: Ends, starts: [u32; 2], client: Option<usize>) -> Joiner {
+        let mut joiner = Joiner { is_behind: true, client, ..Joiner::new(first, ends) };
+        for (flow, start) in starts.into_iter().enumerate() {
+            joiner.both.flows[flow].initial = Some(start.wrapping_sub(1));
+        }
+        joiner.tell_client();
+        joiner
+    }
+
+    fn tell_client(&mut self) {
+        self.client.iter().for_each(|client| self.course.sides.before(*client));
+    }
+
+    /// How many bytes wait: for a border, or behind a hole.
+    #[inline]
+    pub fn waiting(&self) -> usize {
+        self.both.flows.iter().map(|one| one.waiting()).sum()
+    }
+
     /// Takes a segment of a flow: 0 is that of the first segment.
+    #[inline]
     pub fn take(&mut self, flow: usize, piece: &Piece<'_>) {
         self.goes_back |= piece.arrival.nanos < self.last;
         self.last = piece.arrival.nanos;
@@ -125,7 +171,7 @@ impl Joiner {
             return;
         }
         if !piece.payload.is_empty() {
-            self.look_for_doubles(flow, piece);
+            self.doubles[flow].add(piece);
         }
         if !self.is_encrypted {
             self.read(flow, piece);
@@ -135,9 +181,10 @@ impl Joiner {
     /// What segments hold is encrypted: from here on they tell of TCP alone, and frames come as plaintext.
     pub fn encrypted(&mut self) {
         let (first, ends) = (self.first, self.ends);
-        let Joiner { goes_back, segments, doubled, last, .. } = *self;
-        let recent = std::mem::take(&mut self.recent);
-        *self = Joiner { goes_back, segments, doubled, last, recent, is_encrypted: true, ..Joiner::new(first, ends) };
+        let Joiner { goes_back, doubles, last, is_behind, client, .. } = *self;
+        let known = Joiner { goes_back, doubles, last, is_behind, client, ..Joiner::new(first, ends) };
+        *self = Joiner { is_encrypted: true, ..known };
+        self.tell_client();
     }
 
     /// Takes plaintext of a flow, with numbers that count it alone. The secret that opened it tells whose flow is the
@@ -148,7 +195,14 @@ impl Joiner {
     }
 
     fn read(&mut self, flow: usize, piece: &Piece<'_>) {
-        self.acknowledged[flow] = piece.acknowledgement.or(self.acknowledged[flow]);
+        if let Some(number) = piece.acknowledgement {
+            self.acknowledged[flow] = Some(number);
+            self.both.flows[1 - flow].acknowledged(number);
+        }
+        if self.is_behind {
+            let course = &mut self.course;
+            return self.both.take(flow, piece, |flow, given| course.take(flow, given));
+        }
         let is_answer = piece.flags & (flags::SYN | flags::ACK) == flags::SYN | flags::ACK;
         if let (true, false, Some(number)) = (is_answer, self.has_payload, piece.acknowledgement) {
             self.answered = Some((flow, number));
@@ -158,8 +212,9 @@ impl Joiner {
             self.has_payload = true;
             self.keep_front(flow, piece);
         }
-        self.both.begin(flow, piece);
-        if !self.is_exact {
+        if self.is_exact {
+            self.both.begin(flow, piece);
+        } else {
             let course = &mut self.course;
             self.both.take(flow, piece, |flow, given| course.take(flow, given));
         }
@@ -176,6 +231,7 @@ impl Joiner {
     }
 
     /// Why it cannot be joined, whatever follows.
+    #[inline]
     pub fn over(&self) -> Option<Unjoined> {
         match () {
             () if self.is_exact => None,
@@ -193,17 +249,6 @@ impl Joiner {
         }
     }
 
-    fn look_for_doubles(&mut self, flow: usize, piece: &Piece<'_>) {
-        let print = (piece.sequence, piece.payload.len(), piece.identification);
-        let recent = &mut self.recent[flow];
-        self.segments += 1;
-        self.doubled += u64::from(piece.identification != 0 && recent.contains(&print));
-        if recent.len() == MOST_BETWEEN {
-            recent.pop_front();
-        }
-        recent.push_back(print);
-    }
-
     /// The flow of a client whose first bytes are there, if they are, and so are the server's.
     fn client_from_the_beginning(&self) -> Option<usize> {
         (0..2).find(|client| are_first(&self.fronts[*client], &self.fronts[1 - *client]))
@@ -213,11 +258,11 @@ impl Joiner {
     pub fn finish(mut self) -> Result<Joined, Unjoined> {
         if let Some((server, number)) = self.answered {
             let numbers = Numbers { ends: self.ends_of(1 - server), next: [number, 0] };
-            return Ok(self.joined(1 - server, How::Syn, numbers.handshake(false)));
+            return Ok(self.joined(How::Syn, numbers, None));
         }
         if let Some(client) = self.client_from_the_beginning() {
             let numbers = Numbers { ends: self.ends_of(client), next: self.numbers(client, [0; 2]) };
-            return Ok(self.joined(client, How::Handshake, numbers.handshake(true)));
+            return Ok(self.joined(How::Handshake, numbers, None));
         }
         if self.both.is_tls() {
             return Err(Unjoined::Tls);
@@ -236,7 +281,10 @@ impl Joiner {
         let (client, told) = self.course.sides.client([port(8), port(10)]);
         let flows = [client, 1 - client];
         let has_blocks = flows.map(|flow| self.course.has_blocks[flow]);
-        let is_doubtful = self.goes_back || self.doubled * FEW > self.segments;
+        let segments: u64 = self.doubles.iter().map(|one| one.segments).sum();
+        let doubled: u64 = self.doubles.iter().map(|one| one.doubled).sum();
+        let is_late = self.both.flows.iter().any(|one| one.is_late());
+        let is_doubtful = self.goes_back || is_late || doubled * FEW > segments;
         let borders = flows.map(|flow| self.both.flows[flow].border());
         // Without a border all bytes are before it.
         let places =
@@ -248,22 +296,24 @@ impl Joiner {
             first_opened: self.course.streams.first_opened(),
             longest: flows.map(|flow| self.course.longest[flow]),
             acknowledged_later: flows.map(|flow| self.course.acknowledged_before[flow]),
+            pings: 0,
         };
-        let script = beginning_of(&stand);
         let numbers = Numbers { ends: self.ends_of(client), next: self.numbers(client, places) };
-        let records = records_of(&script, &numbers);
+        let mut stand = stand;
+        let assumed = stand.credits.iter_mut().flat_map(|credits| std::mem::take(&mut credits.assumed)).collect();
         let inferred = Inferred {
             sides: told,
             borders: borders.map(|border| border.map(|(at, bits)| Border { at, bits })),
-            made: script.frames,
+            made: frames_of(&stand),
             acknowledged: stand.acknowledged_later,
             longest: stand.longest,
             changed: flows.map(|flow| self.course.senders[flow].changed),
+            divided: flows.map(|flow| self.course.divided[flow]),
             open: self.course.streams.open().map(|(id, _)| id).collect(),
-            assumed: stand.credits.into_iter().flat_map(|credits| credits.assumed).collect(),
+            assumed,
             is_doubtful,
         };
-        self.joined(client, How::Inferred(Box::new(inferred)), records)
+        self.joined(How::Inferred(Box::new(inferred)), numbers, Some(Box::new(stand)))
     }
 
     /// The numbers of both sides behind so many of the bytes that were captured.
@@ -285,7 +335,7 @@ impl Joiner {
         }
     }
 
-    fn joined(&self, client: usize, how: How, records: Vec<Made>) -> Joined {
-        Joined { first: self.first, ends: self.ends_of(client), how, records }
+    fn joined(&self, how: How, numbers: Numbers, stand: Option<Box<Stand>>) -> Joined {
+        Joined { first: self.first, ends: numbers.ends, how, numbers, stand }
     }
 }

@@ -14,6 +14,8 @@
 //!                └─ beginning ─ frames, handshake     the records that are made up
 //! ```
 //!
+//! [`claimed`] and [`sure_of`] tell which findings of what is made are claimed of the connection.
+//!
 //! Each byte is looked at a bounded number of times. What is kept of a connection does not grow with its frames, but with
 //! the streams that are open; at most 1 MiB of a flow waits for its border.
 
@@ -22,7 +24,9 @@
 mod assumed;
 mod beginning;
 mod border;
+mod claims;
 mod course;
+mod doubles;
 mod evidence;
 mod first_bytes;
 mod frames;
@@ -36,9 +40,10 @@ mod usual;
 mod windows;
 
 pub use assumed::{Assumed, Grade, What};
+pub use claims::{assumed_of, claimed, sure_of, Sure};
 pub use first_bytes::is_first_of_server;
 pub use handshake::Made;
 pub use incoming::Piece;
 pub use joiner::{Border, How, Inferred, Joined, Joiner, CLIENT, SERVER};
-pub use sides::Told;
+pub use sides::SideEvidence;
 pub use unjoined::Unjoined;

@@ -2,19 +2,21 @@
 //!
 //! A stream that is met without an opening was open, unless a lower one opens later: then it was not opened yet.
 
-use std::collections::BTreeMap;
+use std::collections::hash_map::{Entry, HashMap};
 
-use cutter::Nanos;
+use cutter::{Nanos, Numbers};
 
-use crate::windows::Window;
+use crate::windows::BoundedWindow;
 
 /// So many streams may have been open. No peer allows as many.
 pub const MOST_OPEN: usize = 1 << 14;
+/// Of so many streams it is known without a search where they stand.
+const MOST_RECENT: usize = 1 << 10;
 
 /// What is known of a stream, by the flow that sends.
 #[derive(Clone, Debug)]
 pub struct Stream {
-    pub windows: [Window; 2],
+    pub windows: [BoundedWindow; 2],
     was_open: bool,
     /// Which flows ended it.
     ended: [bool; 2],
@@ -32,11 +34,14 @@ pub struct Streams {
     /// Since when each flow may have waited.
     beginnings: [Nanos; 2],
     /// Where each stands.
-    places: BTreeMap<u32, usize>,
+    places: HashMap<u32, u32, Numbers>,
     known: Vec<Stream>,
-    free: Vec<usize>,
-    /// The one that was asked for last, and its place: frames of one stream often follow each other.
-    last: (u32, usize),
+    free: Vec<u32>,
+    /// Streams that were asked for, and their places, by the low bits of their numbers: frames of few streams follow each
+    /// other. So many stand here as a power of 2 says, twice as many as there are streams, up to a bound.
+    recent: Vec<(u32, u32)>,
+    /// The highest that was open, by parity.
+    highest: [u32; 2],
     /// By parity: even ones are promised.
     opened: [Opened; 2],
     open: usize,
@@ -47,10 +52,11 @@ impl Streams {
     pub fn new(beginning: Nanos) -> Streams {
         Streams {
             beginnings: [beginning; 2],
-            places: BTreeMap::new(),
+            places: HashMap::default(),
             known: Vec::new(),
             free: Vec::new(),
-            last: (0, 0),
+            recent: vec![(0, 0)],
+            highest: [0; 2],
             opened: Default::default(),
             open: 0,
             has_too_many: false,
@@ -74,17 +80,18 @@ impl Streams {
 
     /// Those that were open, in rising order.
     pub fn open(&self) -> impl Iterator<Item = (u32, &Stream)> {
-        let known = self.places.iter().map(|(id, place)| (*id, &self.known[*place]));
-        known.filter(|(_, stream)| stream.was_open)
+        let known = self.places.iter().map(|(id, place)| (*id, &self.known[*place as usize]));
+        let mut open: Vec<_> = known.filter(|(_, stream)| stream.was_open).collect();
+        open.sort_unstable_by_key(|(id, _)| *id);
+        open.into_iter()
     }
 
     /// Whether HEADERS of the client, or a promise, may open a stream: it is above all that opened and all that were open.
     pub fn may_open(&self, id: u32) -> bool {
-        let opened = &self.opened[(id % 2) as usize];
-        let is_above_open = || self.places.range(id..).all(|(other, _)| other % 2 != id % 2);
-        match opened.first {
-            Some(_) => id > opened.last,
-            None => is_above_open(),
+        let parity = (id % 2) as usize;
+        match self.opened[parity].first {
+            Some(_) => id > self.opened[parity].last,
+            None => id > self.highest[parity],
         }
     }
 
@@ -93,7 +100,7 @@ impl Streams {
     }
 
     /// A stream opens, by a request or by a promise; those above it that were taken to be open were not opened yet.
-    pub fn begin(&mut self, id: u32, windows: [Window; 2]) {
+    pub fn begin(&mut self, id: u32, windows: [BoundedWindow; 2]) {
         let opened = &mut self.opened[(id % 2) as usize];
         if id > opened.last {
             opened.last = id;
@@ -105,47 +112,60 @@ impl Streams {
         self.insert(id, Stream { windows, was_open: false, ended: [false; 2] });
     }
 
-    fn insert(&mut self, id: u32, stream: Stream) -> usize {
-        let place = match self.places.get(&id).copied().or_else(|| self.free.pop()) {
-            Some(place) => {
-                self.known[place] = stream;
-                place
-            }
-            None => {
-                self.known.push(stream);
-                self.known.len() - 1
-            }
+    fn insert(&mut self, id: u32, stream: Stream) -> u32 {
+        let place = match self.places.entry(id) {
+            Entry::Occupied(place) => *place.get(),
+            Entry::Vacant(none) => *none.insert(self.free.pop().unwrap_or(self.known.len() as u32)),
         };
-        self.places.insert(id, place);
+        match self.known.get_mut(place as usize) {
+            Some(known) => *known = stream,
+            None => self.known.push(stream),
+        }
+        if self.places.len() > self.recent.len() / 2 && self.recent.len() < MOST_RECENT {
+            self.recent = vec![(0, 0); self.recent.len() * 2];
+        }
+        *self.recent_of(id) = (id, place);
         place
+    }
+
+    #[inline]
+    fn recent_of(&mut self, id: u32) -> &mut (u32, u32) {
+        let mask = self.recent.len() - 1;
+        &mut self.recent[(id / 2) as usize & mask]
     }
 
     /// A stream is over. Its place is free, and its evidence that of others, or void.
     fn remove(&mut self, id: u32) {
         if let Some(place) = self.places.remove(&id) {
-            self.open -= usize::from(self.known[place].was_open);
+            self.open -= usize::from(self.known[place as usize].was_open);
             self.free.push(place);
-            self.last = (0, 0);
+            *self.recent_of(id) = (0, 0);
         }
     }
 
-    fn place_of(&mut self, id: u32) -> Option<usize> {
-        if self.last.0 != id || id == 0 {
-            self.last = (id, *self.places.get(&id)?);
+    #[inline]
+    fn place_of(&mut self, id: u32) -> Option<u32> {
+        match *self.recent_of(id) {
+            (recent, place) if recent == id && id != 0 => Some(place),
+            _ => self.search(id),
         }
-        Some(self.last.1)
+    }
+
+    #[inline(never)]
+    fn search(&mut self, id: u32) -> Option<u32> {
+        let place = *self.places.get(&id)?;
+        *self.recent_of(id) = (id, place);
+        Some(place)
     }
 
     fn forget_above(&mut self, id: u32) {
-        for (other, place) in self.places.split_off(&id) {
-            self.places.insert(other, place);
-            if other % 2 == id % 2 {
-                self.remove(other);
-            }
-        }
+        let mut above = Vec::new();
+        above.extend(self.places.keys().copied().filter(|other| *other >= id && other % 2 == id % 2));
+        above.into_iter().for_each(|other| self.remove(other));
     }
 
     /// The stream of a frame: one that opened, or that was open; none where it is over, or was never opened.
+    #[inline]
     pub fn get(&mut self, id: u32) -> Option<&mut Stream> {
         if id == 0 {
             return None;
@@ -154,11 +174,12 @@ impl Streams {
             Some(place) => place,
             None => self.was_open(id)?,
         };
-        self.known.get_mut(place)
+        self.known.get_mut(place as usize)
     }
 
     /// Notes a stream that was open.
-    fn was_open(&mut self, id: u32) -> Option<usize> {
+    #[inline(never)]
+    fn was_open(&mut self, id: u32) -> Option<u32> {
         let opened = &self.opened[(id % 2) as usize];
         if opened.first.map_or(false, |first| id >= first) {
             return None;
@@ -168,14 +189,15 @@ impl Streams {
             return None;
         }
         self.open += 1;
-        let windows = self.beginnings.map(Window::open_since);
+        self.highest[(id % 2) as usize] = self.highest[(id % 2) as usize].max(id);
+        let windows = self.beginnings.map(BoundedWindow::open_since);
         Some(self.insert(id, Stream { windows, was_open: true, ended: [false; 2] }))
     }
 
     /// A flow ends a stream; both do with RST_STREAM.
     pub fn end(&mut self, id: u32, flows: &[usize]) {
         let stream = match self.place_of(id) {
-            Some(place) => &mut self.known[place],
+            Some(place) => &mut self.known[place as usize],
             None => return,
         };
         for flow in flows {
@@ -192,8 +214,8 @@ impl Streams {
 mod tests {
     use super::*;
 
-    fn windows() -> [Window; 2] {
-        [Window::opened(true), Window::opened(true)]
+    fn windows() -> [BoundedWindow; 2] {
+        [BoundedWindow::opened(true), BoundedWindow::opened(true)]
     }
 
     fn open_ones(streams: &Streams) -> Vec<u32> {

@@ -9,8 +9,14 @@ pub enum Unjoined {
     NoFrames,
     /// More streams were open than is followed.
     ManyStreams,
-    /// More connections began before the capture than are followed.
+    /// More connections began before the capture, or go on behind gaps, than are followed.
     ManyPairs,
+    /// More bytes wait of all connections together than are kept: this one waited longest.
+    ManyWaiting,
+    /// It goes on behind a gap, and more gaps are there than are followed.
+    ManyGaps,
+    /// Packets are not whole, so that each is a gap.
+    Snapped,
 }
 
 impl Unjoined {
@@ -21,6 +27,9 @@ impl Unjoined {
             Unjoined::NoFrames => "no-frames",
             Unjoined::ManyStreams => "many-streams",
             Unjoined::ManyPairs => "many-pairs",
+            Unjoined::ManyWaiting => "many-waiting",
+            Unjoined::ManyGaps => "many-gaps",
+            Unjoined::Snapped => "snapped",
         }
     }
 }

@@ -39,17 +39,18 @@ impl Usual {
             self.gaps[(63 - gap.leading_zeros()) as usize] += 1;
             self.count += 1;
         }
-        self.are_windows &= is_window(i64::from(length));
+        self.are_windows = self.are_windows && is_window(i64::from(length));
         if length > self.longest {
-            let before = std::mem::replace(&mut self.longest, length);
-            if self.is_short(before) {
-                self.short += std::mem::take(&mut self.full);
-            }
+            self.lengthen(length);
         }
-        if self.is_short(length) {
-            self.short += 1;
-        } else {
-            self.full += 1;
+        *(if self.is_short(length) { &mut self.short } else { &mut self.full }) += 1;
+    }
+
+    /// The longest content so far came.
+    fn lengthen(&mut self, length: u32) {
+        let before = std::mem::replace(&mut self.longest, length);
+        if self.is_short(before) {
+            self.short += std::mem::take(&mut self.full);
         }
     }
 

@@ -22,6 +22,7 @@ pub struct Sender {
     usual: Usual,
     credit: i64,
     pause: Option<Pause>,
+    held: Option<Held>,
     pub connection: Evidence,
     /// Of the initial window that was in force at the beginning, by the streams that opened since.
     pub initial: Evidence,
@@ -36,14 +37,25 @@ pub struct Sender {
     pub is_initial_refused: bool,
 }
 
+/// The last pause at a bound of the connection's window that a grant ended: content of any stream may have followed it.
+#[derive(Clone, Copy, Debug)]
+struct Held {
+    since: Nanos,
+    granted: Nanos,
+    /// Which bound that was.
+    turn: u32,
+}
+
 /// The window of a stream for what one side sends.
 #[derive(Clone, Debug)]
-pub struct Window {
+pub struct BoundedWindow {
     is_live: bool,
     /// Beside its unknown beginning, and beside the initial window.
     credit: i64,
     /// The least that this was.
     pub least: i64,
+    /// The bound of one that was open at the beginning, as its evidence has it since the last change of the initial window.
+    bound: i64,
     pause: Option<Pause>,
     /// Of how many changes of the initial window the pause knows.
     change: u32,
@@ -54,16 +66,26 @@ pub struct Window {
     pub is_refused: bool,
 }
 
-impl Window {
+impl BoundedWindow {
     /// Of a stream that opens now.
-    pub fn opened(is_live: bool) -> Window {
-        Window { is_live, credit: 0, least: 0, pause: None, change: 0, spoken: None, open: None, is_refused: false }
+    pub fn opened(is_live: bool) -> BoundedWindow {
+        BoundedWindow {
+            is_live,
+            credit: 0,
+            least: 0,
+            bound: i64::MAX,
+            pause: None,
+            change: 0,
+            spoken: None,
+            open: None,
+            is_refused: false,
+        }
     }
 
     /// Of a stream that was open at the beginning, when its sender may have waited.
-    pub fn open_since(beginning: Nanos) -> Window {
+    pub fn open_since(beginning: Nanos) -> BoundedWindow {
         let pause = Some(Pause::from_the_beginning(beginning));
-        Window { pause, open: Some(Default::default()), ..Window::opened(true) }
+        BoundedWindow { pause, open: Some(Default::default()), ..BoundedWindow::opened(true) }
     }
 
     pub fn end(&mut self) {
@@ -77,11 +99,13 @@ impl Window {
     }
 }
 
-/// A pause that content ended: of the stream's window where it is at its bound, and of the connection's.
+/// A pause that content ended: of the stream's window where it is at its bound, and of the connection's; and whether the
+/// connection's was at its bound too in the pause of the stream, whatever content ended that.
 #[derive(Clone, Copy)]
 struct Touched {
     connection: Option<Touch>,
     stream: Option<Touch>,
+    is_held: bool,
 }
 
 impl Sender {
@@ -109,39 +133,72 @@ impl Sender {
     }
 
     /// Content came on a stream, whose window may not be known any more.
-    pub fn content(&mut self, window: Option<&mut Window>, content: Content) {
-        let mut window = window.filter(|window| window.is_live);
+    pub fn content(&mut self, window: Option<&mut BoundedWindow>, content: Content) {
+        match window.filter(|window| window.is_live) {
+            Some(window) => {
+                if is_over(&self.pause) || is_over(&window.pause) {
+                    self.end_pauses(Some(&mut *window), content);
+                }
+                self.lower_stream(window, content);
+            }
+            None if is_over(&self.pause) => self.end_pauses(None, content),
+            None => {}
+        }
+        let before = self.credit;
+        self.credit -= i64::from(content.length);
+        match self.connection.content(before, self.credit) {
+            Bound::None => self.pause = None,
+            bound => self.pause = pause_at(bound, content),
+        }
+        self.usual.content(content.first, content.last, content.length);
+    }
+
+    /// Content comes behind pauses that grants ended.
+    #[inline(never)]
+    fn end_pauses(&mut self, window: Option<&mut BoundedWindow>, content: Content) {
         let spoken = window.as_ref().and_then(|window| window.spoken);
         let touched = Touched {
             connection: self.pause.and_then(|pause| pause.touch(content.first, spoken)),
             stream: window.as_ref().and_then(|window| self.touch_of(window, content.first)),
+            is_held: window.as_ref().map_or(false, |window| self.is_held_in(window.pause)),
         };
-        if let Some(window) = &mut window {
+        if let Some((since, granted)) = self.pause.and_then(|pause| pause.ended()) {
+            self.held = Some(Held { since, granted, turn: self.connection.turn });
+        }
+        if let Some(window) = window {
             self.tell_stream(window, touched);
-            self.lower_stream(window, content);
         } else if let Some(touch) = touched.connection {
             tell(&mut self.connection, &touch, &self.usual);
         }
-        let before = self.credit;
-        self.credit -= i64::from(content.length);
-        let bound = self.connection.content(before, self.credit);
-        self.pause = pause_at(bound, content);
-        self.usual.content(content.first, content.last, content.length);
     }
 
     /// Whether content ends a pause of a stream's window.
-    fn touch_of(&self, window: &Window, content: Nanos) -> Option<Touch> {
+    fn touch_of(&self, window: &BoundedWindow, content: Nanos) -> Option<Touch> {
         let pause = window.pause.filter(|_| window.change == self.changes)?;
         pause.touch(content, window.spoken)
     }
 
+    /// Whether the connection's window was at its bound in a pause of a stream's.
+    fn is_held_in(&self, pause: Option<Pause>) -> bool {
+        match (self.held, pause.and_then(|pause| pause.ended())) {
+            (Some(held), Some((since, granted))) => {
+                held.turn == self.connection.turn && held.since < granted && since < held.granted
+            }
+            _ => false,
+        }
+    }
+
     /// Takes what a pause tells to the windows that were at their bounds.
-    fn tell_stream(&mut self, window: &mut Window, touched: Touched) {
+    fn tell_stream(&mut self, window: &mut BoundedWindow, touched: Touched) {
         let Sender { connection, initial, in_force, usual, .. } = self;
         match (touched.connection, touched.stream, evidence(initial, *in_force, window)) {
             (None, None, _) => {}
             (Some(of_connection), Some(of_stream), (Some(evidence), _)) => {
                 tell_both(connection, evidence, [&of_connection, &of_stream], usual);
+            }
+            (None, Some(touch), (Some(evidence), _)) if touched.is_held && touch.length.is_some() => {
+                of_turn(evidence, connection);
+                evidence.shared += evidence.worth(&touch, usual);
             }
             (_, Some(touch), (Some(evidence), _)) => tell(evidence, &touch, usual),
             // A window that is known explains the pause by itself.
@@ -151,23 +208,45 @@ impl Sender {
         }
     }
 
-    fn lower_stream(&mut self, window: &mut Window, content: Content) {
-        window.change = self.changes;
+    #[inline]
+    fn lower_stream(&mut self, window: &mut BoundedWindow, content: Content) {
         let length = i64::from(content.length);
+        window.credit -= length;
+        window.least = window.least.min(window.credit);
+        match window.credit + self.in_force.unwrap_or(0) > self.bound_of(window) {
+            true => window.pause = None,
+            false => self.reach_bound(window, content),
+        }
+    }
+
+    /// Above this a window's credit is not at its bound.
+    #[inline]
+    fn bound_of(&self, window: &BoundedWindow) -> i64 {
+        match (&window.open, self.in_force) {
+            (Some(_), _) if window.change == self.changes => window.bound,
+            (Some(_), _) => i64::MAX,
+            (None, None) => self.initial.low.unwrap_or(i64::MAX),
+            (None, Some(_)) => 0,
+        }
+    }
+
+    /// The credit of a window may be at its bound, or below it.
+    #[inline(never)]
+    fn reach_bound(&mut self, window: &mut BoundedWindow, content: Content) {
+        window.change = self.changes;
         let (evidence, credit) = evidence(&mut self.initial, self.in_force, window);
-        let after = credit - length;
-        let bound = match evidence {
+        let (before, after) = (credit + i64::from(content.length), credit);
+        let (bound, low) = match evidence {
             Some(evidence) => {
                 if evidence.low.map_or(true, |low| after < low) {
                     give_back(&mut self.connection, evidence);
                 }
-                evidence.content(credit, after)
+                (evidence.content(before, after), evidence.low)
             }
-            None if after <= 0 => Bound::Old,
-            None => Bound::None,
+            None if after <= 0 => (Bound::Old, None),
+            None => (Bound::None, None),
         };
-        window.credit -= length;
-        window.least = window.least.min(window.credit);
+        window.bound = low.unwrap_or(i64::MAX);
         window.pause = pause_at(bound, content);
     }
 
@@ -179,7 +258,7 @@ impl Sender {
     }
 
     /// The other side grants so much on a stream.
-    pub fn grant_stream(&mut self, window: &mut Window, time: Nanos, amount: u32) {
+    pub fn grant_stream(&mut self, window: &mut BoundedWindow, time: Nanos, amount: u32) {
         if window.is_live {
             window.credit += i64::from(amount);
             window.pause.iter_mut().for_each(|pause| pause.grant(time));
@@ -189,10 +268,11 @@ impl Sender {
 }
 
 /// What is known of a stream's window, if anything of it is unknown; and its credit beside that.
+#[inline]
 fn evidence<'a>(
     initial: &'a mut Evidence,
     in_force: Option<i64>,
-    window: &'a mut Window,
+    window: &'a mut BoundedWindow,
 ) -> (Option<&'a mut Evidence>, i64) {
     let credit = window.credit + in_force.unwrap_or(0);
     let evidence = match (&mut window.open, in_force) {
@@ -203,6 +283,13 @@ fn evidence<'a>(
     (evidence, credit)
 }
 
+/// Whether a grant ended a pause.
+#[inline]
+fn is_over(pause: &Option<Pause>) -> bool {
+    pause.as_ref().map_or(false, |pause| pause.ended().is_some())
+}
+
+#[inline]
 fn pause_at(bound: Bound, content: Content) -> Option<Pause> {
     match bound {
         Bound::None => None,
@@ -219,22 +306,28 @@ fn tell(evidence: &mut Evidence, touch: &Touch, usual: &Usual) {
     }
 }
 
-/// Both were: each may explain it.
+/// Both were: each may explain it. A silence is not the connection's where that had credit again long before content came.
 fn tell_both(connection: &mut Evidence, stream: &mut Evidence, touches: [&Touch; 2], usual: &Usual) {
     let [of_connection, of_stream] = touches;
     if of_stream.length.is_none() || of_connection.length.is_none() {
+        stream.is_silent_shared = of_connection.length.is_none() && of_connection.is_soon();
         return tell(stream, of_stream, usual);
     }
+    of_turn(stream, connection);
+    let lent = connection.worth(of_connection, usual);
+    connection.shared += lent;
+    stream.lent += lent;
+    stream.shared += stream.worth(of_stream, usual);
+}
+
+/// What was shared with a bound of the connection's window that it does not have any more is the stream's alone.
+fn of_turn(stream: &mut Evidence, connection: &Evidence) {
     if stream.of_turn != connection.turn {
         stream.alone += stream.shared;
         stream.shared = 0.0;
         stream.lent = 0.0;
         stream.of_turn = connection.turn;
     }
-    let lent = connection.worth(of_connection, usual);
-    connection.shared += lent;
-    stream.lent += lent;
-    stream.shared += stream.worth(of_stream, usual);
 }
 
 /// A stream's window was not at its bound after all, so the connection's alone was.
@@ -271,130 +364,4 @@ pub fn lent_by(connection: &Evidence, stream: &Evidence) -> f64 {
 }
 
 #[cfg(test)]
-mod tests {
-    use super::*;
-
-    const MS: Nanos = 1_000_000;
-    /// From one round to the next.
-    const ROUND: Nanos = MS + 4000;
-
-    fn content(time: Nanos, length: u32) -> Content {
-        Content { first: time, last: time, length, is_end: false }
-    }
-
-    /// Contents that are a microsecond apart, up to a pause of a millisecond; then what is granted, and content.
-    fn round(sender: &mut Sender, window: &mut Window, at: Nanos, lengths: &[u32], grants: [u32; 2]) {
-        let mut time = at;
-        for length in lengths {
-            time += 1000;
-            sender.content(Some(window), content(time, *length));
-        }
-        if grants[0] > 0 {
-            sender.grant(time + MS, grants[0]);
-        }
-        if grants[1] > 0 {
-            sender.grant_stream(window, time + MS, grants[1]);
-        }
-    }
-
-    fn open() -> (Sender, Window) {
-        (Sender::new(0), Window::open_since(0))
-    }
-
-    #[test]
-    fn the_least_credit_is_what_was_used_before_grants() {
-        let (mut sender, mut window) = open();
-        round(&mut sender, &mut window, 0, &[1000, 500], [700, 300]);
-        round(&mut sender, &mut window, 2 * MS, &[600], [0, 0]);
-        assert_eq!(sender.connection.least(), Some(1500));
-        assert_eq!(window.open.expect("open")[0].least(), Some(1800));
-    }
-
-    #[test]
-    fn a_stream_that_touches_its_bound_alone() {
-        let (mut sender, mut window) = open();
-        sender.content(None, content(0, 9000));
-        sender.grant(500, 100_000);
-        for at in 0..4 {
-            round(&mut sender, &mut window, at * ROUND, &[1000, 500], [0, 1500]);
-        }
-        let evidence = &window.open.expect("open")[0];
-        assert_eq!((evidence.least(), evidence.touches), (Some(1500), 3));
-        assert!(evidence.alone > LIKELY && evidence.shared == 0.0, "{evidence:?}");
-        assert_eq!(sender.connection.least(), Some(9000));
-    }
-
-    #[test]
-    fn both_windows_in_the_same_pauses() {
-        let (mut sender, mut window) = open();
-        for at in 0..4 {
-            round(&mut sender, &mut window, at * ROUND, &[1000, 500], [1500, 1500]);
-        }
-        let evidence = &window.open.as_ref().expect("open")[0];
-        let found = weighed(evidence, &sender.connection);
-        assert!(found.alone == 0.0 && found.shared > LIKELY, "{evidence:?}");
-        assert!(lent_by(&sender.connection, evidence) > LIKELY);
-        // More on that stream than it can have had: the connection explains nothing any more of what the stream shows.
-        sender.content(None, content(9 * MS, 5000));
-        let found = weighed(evidence, &sender.connection);
-        assert!(found.alone > LIKELY && found.shared == 0.0);
-    }
-
-    #[test]
-    fn what_a_stream_shared_goes_back_to_the_connection() {
-        let (mut sender, mut window) = open();
-        for at in 0..4 {
-            round(&mut sender, &mut window, at * ROUND, &[1000, 500], [1500, 1500]);
-        }
-        sender.grant(9 * MS, 100_000);
-        round(&mut sender, &mut window, 9 * MS, &[1000, 1000], [0, 0]);
-        assert!(sender.connection.alone > LIKELY && sender.connection.shared == 0.0, "{:?}", sender.connection);
-    }
-
-    #[test]
-    fn new_streams_tell_the_initial_window() {
-        let mut sender = Sender::new(0);
-        for at in 0..3 {
-            let mut window = Window::opened(true);
-            round(&mut sender, &mut window, at * 10 * MS, &[1000, 23], [100_000, 1023]);
-            round(&mut sender, &mut window, (at * 10 + 2) * MS, &[1023], [0, 0]);
-        }
-        assert_eq!((sender.initial.least(), sender.initial.touches), (Some(1023), 3));
-        sender.change(0, 500);
-        let mut window = Window::opened(true);
-        round(&mut sender, &mut window, 60 * MS, &[9999], [0, 0]);
-        assert_eq!(sender.initial.least(), Some(1023), "what is announced is known");
-    }
-
-    #[test]
-    fn an_open_stream_before_and_after_a_change() {
-        let (mut sender, mut window) = open();
-        round(&mut sender, &mut window, 0, &[1000], [0, 0]);
-        sender.change(0, 4000);
-        round(&mut sender, &mut window, MS, &[3500], [0, 0]);
-        let [before, after] = *window.open.expect("open");
-        assert_eq!((before.least(), after.least()), (Some(1000), Some(500)));
-    }
-
-    #[test]
-    fn silent_since_the_beginning() {
-        let (mut sender, mut window) = open();
-        sender.grant(MS, 70_000);
-        sender.grant_stream(&mut window, 100 * MS, 5000);
-        sender.content(Some(&mut window), content(100 * MS + 1000, 1000));
-        let evidence = &window.open.expect("open")[0];
-        assert!(evidence.silent >= LIKELY && evidence.least() == Some(-4000), "{evidence:?}");
-        assert_eq!(sender.connection.silent, 0.0);
-    }
-
-    /// A pause that another message of the other side ended says nothing.
-    #[test]
-    fn an_answer_is_no_touch() {
-        let (mut sender, mut window) = open();
-        for at in 0..4 {
-            round(&mut sender, &mut window, at * ROUND, &[1000], [1000, 1000]);
-            window.spoken(at * ROUND + MS);
-        }
-        assert_eq!((window.open.expect("open")[0].touches, sender.connection.touches), (0, 0));
-    }
-}
+mod tests;

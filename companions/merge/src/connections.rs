@@ -1,4 +1,4 @@
-//! The lines of a connection (docs/REPORT_FORMAT.md, section 5), from the report of a part into that of the whole.
+//! The lines of a connection (docs/REPORT_FORMAT.md, section 3), from the report of a part into that of the whole.
 
 use std::io::{self, Write};
 

@@ -62,7 +62,7 @@ fn merge(folder: PathBuf, only_standing: bool) -> Outcome {
 
 fn write_failure(error: &io::Error) -> Failure {
     match error.kind() {
-        io::ErrorKind::BrokenPipe => Failure::Io("write failed".to_string()),
+        io::ErrorKind::BrokenPipe => Failure::Unread,
         _ => Failure::Io(format!("{}: standard output", programs::io_reason(error))),
     }
 }

@@ -5,7 +5,7 @@ use std::io::{BufRead, BufReader};
 use std::path::PathBuf;
 
 use programs::{printable, Failure};
-use reports::{Capture, LONGEST_LINE};
+use reports::{count, Capture, LONGEST_LINE};
 
 use crate::record_numbers::RecordNumbers;
 use crate::split_folder::failed;
@@ -71,7 +71,8 @@ impl PartReport {
         let head = self.text().and_then(Capture::of).ok_or_else(|| self.broken())?;
         if !matches!(self.numbers.count.checked_sub(head.records), Some(0 | 1)) {
             let path = printable(&self.path);
-            let why = format!("{path} is not the report of this part: it has {} records", head.records);
+            let has = count(head.records, "record");
+            let why = format!("{path} is not the report of this part: it has {has}");
             return Err(Failure::Refused(why));
         }
         self.advance()?;

@@ -1,4 +1,4 @@
-//! Pairs of endpoints that were never seen to open a connection (docs/REPORT_FORMAT.md, section 4).
+//! Pairs of endpoints that were never seen to open a connection (docs/REPORT_FORMAT.md, section 2).
 //!
 //! Their lines stand in the order in which the first segments of the pairs appear, and do not say which records these
 //! are. A walk over the part's capture finds them: it looks for the first segment from the sender to the receiver of

@@ -5,7 +5,7 @@ use std::ffi::OsStr;
 use import::{Addresses, Became as Outcome, Listener, Record, Summary};
 use programs::{temporary_failure, Failure};
 
-use crate::original::{Became, Connection, Original, Other, SideRead};
+use crate::original::{Became, Joined, Original, OriginalConnection, Other, SideRead};
 
 /// A map that is kept in memory.
 #[derive(Default)]
@@ -13,6 +13,8 @@ pub struct Keeping {
     pub original: Original,
     addresses: Addresses,
     failure: Option<Failure>,
+    /// Whether the report has connections of which something is inferred.
+    pub shows_joined: bool,
 }
 
 impl Listener for Keeping {
@@ -45,17 +47,32 @@ impl Listener for Keeping {
                 Outcome::Read(read) => Became::Read([side_of(&read.client), side_of(&read.server)]),
             };
             let (fragments, last) = (outcome.fragments, Some(outcome.last.nanos));
-            self.original.add_connection(outcome.opening, Connection { became, fragments, last });
+            self.original.add_connection(outcome.opening, OriginalConnection { became, fragments, last });
+        }
+        if self.shows_joined {
+            self.note_joined(summary);
         }
     }
 
     fn begin_anew(&mut self) -> Result<(), Failure> {
-        *self = Keeping::default();
+        *self = Keeping { shows_joined: self.shows_joined, ..Keeping::default() };
         Ok(())
     }
 
     fn take_failure(&mut self) -> Option<Failure> {
         self.failure.take()
+    }
+}
+
+impl Keeping {
+    /// What the report of the original says of connections that were joined.
+    fn note_joined(&mut self, summary: &Summary) {
+        for one in &summary.joined {
+            if let Some(outcome) = summary.outcomes.get(one.connection) {
+                let joined = Joined::of(&one.how, one.bytes, one.is_one_way, import::joined_lines(one));
+                self.original.add_joined(outcome.opening, joined);
+            }
+        }
     }
 }
 

@@ -2,10 +2,12 @@
 
 #![forbid(unsafe_code)]
 
+mod beginning;
 mod keeping;
 mod original;
 mod report;
 
+pub use beginning::Beginning;
 pub use keeping::Keeping;
-pub use original::{Became, Connection, Original, Other, SideRead};
+pub use original::{Became, Joined, Original, OriginalConnection, Other, SideRead};
 pub use report::{bring_back, no_report, Broken, Shown};

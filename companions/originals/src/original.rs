@@ -6,9 +6,13 @@
 use std::collections::HashMap;
 use std::io::{self, Write};
 use std::net::SocketAddrV4;
+use std::rc::Rc;
 
-use reports::{grouped, Capture, Side};
+use joined::How;
+use reports::{count, Capture, Side};
 use tempfile::SpooledTempFile;
+
+use crate::beginning::Beginning;
 
 /// So many bytes about packets that were passed over are kept in memory.
 const MOST_SAID: usize = 1 << 20;
@@ -41,12 +45,40 @@ impl SideRead {
 }
 
 /// A connection.
-pub struct Connection {
+pub struct OriginalConnection {
     pub became: Became,
     /// How many IP fragments of its packets were passed over.
     pub fragments: u64,
     /// The time of its last packet, which an older map does not tell.
     pub last: Option<i64>,
+}
+
+/// How a connection was joined that began before the capture.
+#[derive(Clone, Debug)]
+pub enum Joined {
+    /// Nothing is inferred: the report has it as any other.
+    Exact,
+    /// Likewise, and the report says so.
+    ExactAndSaid(Vec<String>),
+    /// What was made up goes off the report, which says so.
+    Inferred(Rc<Beginning>),
+    /// The report of the original has no line of it.
+    LeftOut,
+}
+
+impl Joined {
+    /// How a connection was joined that a report shows; with how many bytes of each side were made up, whether one
+    /// direction alone was captured, and what the map says of it.
+    pub fn of(how: &How, bytes: [u64; 2], is_one_way: bool, lines: Vec<String>) -> Joined {
+        match how {
+            How::Inferred(_) if is_one_way => Joined::LeftOut,
+            How::Inferred(inferred) => {
+                let inferred = (**inferred).clone();
+                Joined::Inferred(Rc::new(Beginning { inferred, bytes, lines }))
+            }
+            How::Syn | How::Answer | How::Handshake => Joined::ExactAndSaid(lines),
+        }
+    }
 }
 
 /// Packets that hold no TCP segment, by what they are.
@@ -56,13 +88,17 @@ pub struct Other {
 }
 
 pub struct Original {
-    /// Of each record, the packet that completed it, numbered through all files.
+    /// The packet that completed each record, numbered through all files.
     packets: Vec<u64>,
     addresses: HashMap<[u8; 4], String>,
     passed_over: SpooledTempFile,
     pub capture: Capture,
     /// By the packets of their openings.
-    connections: HashMap<u64, Connection>,
+    connections: HashMap<u64, OriginalConnection>,
+    /// Those that were joined, likewise.
+    joined: HashMap<u64, Joined>,
+    /// What became of pairs of endpoints that were not seen to open a connection, where that was asked for.
+    fates: HashMap<(String, String), String>,
     /// What is to be said of times that go back.
     pub back: Option<String>,
     pub others: Vec<Other>,
@@ -76,6 +112,8 @@ impl Default for Original {
             passed_over: SpooledTempFile::new(MOST_SAID),
             capture: Capture::default(),
             connections: HashMap::new(),
+            joined: HashMap::new(),
+            fates: HashMap::new(),
             back: None,
             others: Vec::new(),
         }
@@ -100,18 +138,39 @@ impl Original {
         writeln!(self.passed_over, "record {packet} {why}")
     }
 
-    pub fn add_connection(&mut self, opening: u64, connection: Connection) {
+    pub fn add_connection(&mut self, opening: u64, connection: OriginalConnection) {
         self.connections.insert(opening, connection);
     }
 
     /// The connection that this packet opened.
-    pub fn connection(&self, opening: u64) -> Option<&Connection> {
+    pub fn connection(&self, opening: u64) -> Option<&OriginalConnection> {
         self.connections.get(&opening)
     }
 
-    /// How many connections could be read.
+    /// The connection that this packet opened, or that began with it, was joined.
+    pub fn add_joined(&mut self, opening: u64, joined: Joined) {
+        self.joined.insert(opening, joined);
+    }
+
+    pub fn joined(&self, opening: u64) -> Option<&Joined> {
+        self.joined.get(&opening)
+    }
+
+    /// What became of two endpoints, of which the first one sent the first packet.
+    pub fn add_fate(&mut self, ends: (String, String), fate: String) {
+        self.fates.insert(ends, fate);
+    }
+
+    pub fn take_fate(&mut self, ends: &(String, String)) -> Option<String> {
+        self.fates.remove(ends)
+    }
+
+    /// How many connections could be read that a report has.
     pub fn read(&self) -> usize {
-        self.connections.values().filter(|one| !matches!(one.became, Became::Refused(_))).count()
+        let is_read = |(opening, one): &(&u64, &OriginalConnection)| {
+            !matches!(self.joined(**opening), Some(Joined::LeftOut)) && !matches!(one.became, Became::Refused(_))
+        };
+        self.connections.iter().filter(is_read).count()
     }
 
     /// The packet that completed a record; records count from 1.
@@ -146,7 +205,7 @@ impl Original {
     }
 }
 
-impl Connection {
+impl OriginalConnection {
     pub fn side(&self, side: Side) -> Option<&SideRead> {
         match (&self.became, side) {
             (Became::Read([client, _]), Side::Client) => Some(client),
@@ -158,5 +217,5 @@ impl Connection {
 
 fn named(other: &Other) -> String {
     let name = if other.name == "-" { "of another protocol" } else { other.name.as_str() };
-    format!("{} packets {name}", grouped(other.packets))
+    format!("{} {name}", count(other.packets, "packet"))
 }

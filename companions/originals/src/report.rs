@@ -2,12 +2,14 @@
 //! h2audit-any").
 
 use std::io::{self, BufRead, Read, Seek, Write};
+use std::rc::Rc;
 
 use programs::{temporary_failure, Failure, Output};
 use reports::rows::Rows;
-use reports::{finding_in, is_fault, read_line, Capture, Flow, Form, Line, Opening, LONGEST_LINE};
+use reports::{finding_in, is_fault, read_line, Capture, Finding, Flow, Form, Line, Opening, Stall, LONGEST_LINE};
 
-use crate::original::{Became, Original};
+use crate::beginning::{Beginning, Behind, Claim};
+use crate::original::{Became, Joined, Original};
 
 /// Why no report of the original was written, or not all of it.
 pub enum Broken {
@@ -63,7 +65,8 @@ pub fn bring_back<'a, W: Write>(
     let mut source = source;
     let mut line = Vec::new();
     let rows = rows.map(Rows::begin).transpose().map_err(Broken::Rows)?;
-    let mut back = Back { original, out, rows, opening: None, shown: Shown::default() };
+    let mut back =
+        Back { original, out, rows, opening: None, is_left_out: false, beginning: None, shown: Shown::default() };
     loop {
         read_line(&mut source, &mut line, LONGEST_LINE + 1).map_err(Broken::Read)?;
         if line.is_empty() {
@@ -80,6 +83,9 @@ struct Back<'a, W> {
     rows: Option<Rows<'a>>,
     /// The packet that opened the connection whose lines come.
     opening: Option<u64>,
+    /// Whether that connection is left out, or something of it is inferred: then rows have it not.
+    is_left_out: bool,
+    beginning: Option<(Rc<Beginning>, Behind)>,
     shown: Shown,
 }
 
@@ -89,10 +95,15 @@ impl<W: Write> Back<'_, W> {
             return self.capture(text);
         }
         match text.split(' ').next() {
-            Some("frame") => self.finding(text),
-            Some("flow" | "connection" | "unopened") => match Line::of(text.trim_end_matches('\n')) {
-                Some(Line::Flow(flow)) => self.flow(&flow),
+            Some("connection") => match Line::of(text.trim_end_matches('\n')) {
                 Some(Line::Opening(opening)) => self.connection(&opening),
+                _ => Err(Broken::NoReport),
+            },
+            _ if self.is_left_out => Ok(()),
+            Some("frame") => self.finding(text),
+            Some("stall" | "audit") if self.beginning.is_some() => self.behind_beginning(text),
+            Some("flow" | "unopened") => match Line::of(text.trim_end_matches('\n')) {
+                Some(Line::Flow(flow)) => self.flow(&flow),
                 Some(Line::Unopened { sender, receiver, segments }) => self.unopened(&sender, &receiver, segments),
                 _ => Err(Broken::NoReport),
             },
@@ -107,7 +118,7 @@ impl<W: Write> Back<'_, W> {
 
     /// Writes a piece of the report.
     fn put(&mut self, piece: &[u8]) -> Result<(), Broken> {
-        if let Some(rows) = &mut self.rows {
+        if let (Some(rows), None) = (&mut self.rows, &self.beginning) {
             rows.take(piece).map_err(Broken::Rows)?;
         }
         Ok(self.out.write_all(piece)?)
@@ -131,10 +142,40 @@ impl<W: Write> Back<'_, W> {
     fn finding(&mut self, text: &str) -> Result<(), Broken> {
         let line = finding_in(text.trim_end_matches('\n')).ok_or(Broken::NoReport)?;
         let packet = self.packet(line.record)?;
+        if let Some((beginning, behind)) = &mut self.beginning {
+            let found = line.finding();
+            let is_shown = behind.finding(beginning, &found, is_fault(line.kind));
+            let frame = found.frame.saturating_sub(beginning.frames());
+            self.shown.has_faults |= is_shown == Claim::Fault;
+            return match is_shown {
+                Claim::Nothing => Ok(()),
+                Claim::Shown | Claim::Fault => self.put(format!("{}\n", line_of(&found, frame, packet)).as_bytes()),
+            };
+        }
         self.shown.has_faults |= is_fault(line.kind);
         self.put(&text.as_bytes()[..line.record_at.start])?;
         self.put(itoa::Buffer::new().format(packet).as_bytes())?;
         self.put(&text.as_bytes()[line.record_at.end..])
+    }
+
+    /// A stall, or how far the audit went, of a connection of which something is inferred.
+    fn behind_beginning(&mut self, text: &str) -> Result<(), Broken> {
+        let (beginning, behind) = match &self.beginning {
+            Some(one) => one,
+            None => return Ok(()),
+        };
+        let line = match Line::of(text.trim_end_matches('\n')) {
+            Some(Line::Stall(stall)) => match behind.stall(beginning, &stall) {
+                Some(stall) => stall_line(&stall),
+                None => return Ok(()),
+            },
+            Some(Line::Audited { stopped_at: Some(frame) }) => {
+                format!("audit stopped at frame {}\n", frame.saturating_sub(beginning.frames()))
+            }
+            Some(Line::Audited { stopped_at: None }) => text.to_string(),
+            _ => return Err(Broken::NoReport),
+        };
+        self.put(line.as_bytes())
     }
 
     fn packet(&self, record: u64) -> Result<u64, Broken> {
@@ -147,6 +188,9 @@ impl<W: Write> Back<'_, W> {
 
     fn unopened(&mut self, sender: &str, receiver: &str, segments: u64) -> Result<(), Broken> {
         let (sender, receiver) = (self.endpoint(sender)?, self.endpoint(receiver)?);
+        if let Some(rows) = &mut self.rows {
+            rows.fate(self.original.take_fate(&(sender.clone(), receiver.clone())));
+        }
         self.put(format!("unopened {sender} {receiver} segments {segments}\n").as_bytes())
     }
 
@@ -154,11 +198,27 @@ impl<W: Write> Back<'_, W> {
         let packet = self.packet(opening.record)?;
         let (client, server) = (self.endpoint(&opening.client)?, self.endpoint(&opening.server)?);
         self.opening = Some(packet);
+        let joined = self.original.joined(packet);
+        self.is_left_out = matches!(joined, Some(Joined::LeftOut));
+        if self.is_left_out {
+            return Ok(());
+        }
+        let is_exact = matches!(joined, Some(Joined::Exact | Joined::ExactAndSaid(_)));
+        let lines = match joined {
+            Some(Joined::ExactAndSaid(lines)) => lines.clone(),
+            Some(Joined::Inferred(beginning)) => beginning.lines.clone(),
+            Some(Joined::Exact | Joined::LeftOut) | None => Vec::new(),
+        };
+        self.beginning = match joined {
+            Some(Joined::Inferred(beginning)) => Some((beginning.clone(), Behind::default())),
+            _ => None,
+        };
+        let made = self.beginning.as_ref().map_or(0, |one| one.0.frames());
         let connection = self.original.connection(packet);
         let form = match (&opening.form, connection.map(|connection| &connection.became)) {
             (Form::NoHandshake, _) => "no-handshake".into(),
             (_, Some(Became::Refused(reason))) => format!("refused {reason}").into(),
-            (Form::Http2 { frames }, _) => format!("http2 frames {frames}").into(),
+            (Form::Http2 { frames }, _) => format!("http2 frames {}", frames.saturating_sub(made)).into(),
             (form, _) => form.words(),
         };
         let number = opening.number;
@@ -166,9 +226,13 @@ impl<W: Write> Back<'_, W> {
         let last = connection.and_then(|connection| connection.last);
         let line = format!("connection {number} client {client} server {server} record {packet} {form}\n");
         self.put(line.as_bytes())?;
-        if let Some(rows) = &mut self.rows {
+        if let (Some(rows), None) = (&mut self.rows, &self.beginning) {
             rows.last_packet(last);
+            if is_exact {
+                rows.joined("exact");
+            }
         }
+        lines.iter().try_for_each(|line| self.put(format!("{line}\n").as_bytes()))?;
         match fragments {
             0 => Ok(()),
             count => self.put(format!("fragments {count}\n").as_bytes()),
@@ -185,8 +249,24 @@ impl<W: Write> Back<'_, W> {
         let of_tls = side.filter(|side| !side.has_gap).map_or(0, |side| side.tail);
         let tail = flow.tail.checked_add(of_tls).ok_or(Broken::NoReport)?;
         let end = side.and_then(|side| side.special_end()).map(str::to_string).or_else(|| flow.end.clone());
+        let flow = &self.beginning.as_ref().map_or_else(|| flow.clone(), |one| one.0.flow(flow));
+        if let Some((_, behind)) = &mut self.beginning {
+            behind.has_gap |= flow.gap.is_some();
+        }
         let gap = flow.gap.map_or("none".to_string(), |gap| gap.to_string());
         let end = end.map_or(String::new(), |end| format!(" end {end}"));
         self.put(format!("flow {} bytes {} gap {gap} tail {tail}{end}\n", flow.side, flow.bytes).as_bytes())
     }
+}
+
+/// The line of a finding at another frame, which this packet completed.
+fn line_of(found: &Finding, frame: u64, packet: u64) -> String {
+    let Finding { time, side, kind, stream, value, .. } = found;
+    format!("frame {frame} record {packet} time {time} {side} {} stream {stream} value {value}", kind.name())
+}
+
+fn stall_line(stall: &Stall) -> String {
+    let Stall { side, stream, begin, end } = stall;
+    let end = end.map_or("open".to_string(), |(frame, nanos)| format!("to {frame} nanos {nanos}"));
+    format!("stall {side} stream {stream} from {begin} {end}\n")
 }

@@ -30,14 +30,22 @@ pub struct Audit {
 }
 
 impl Audit {
-    /// One run of the program.
+    /// One run of the program, which says what is wrong.
     pub fn start(program: &OsStr, options: &[String], capture: &Path) -> Result<Audit, Failure> {
-        Audit::of(Command::new(program).args(options).arg(capture))
+        Audit::start_telling(Command::new(program).args(options).arg(capture))
+    }
+
+    /// A program whose report is read, and which says what is wrong.
+    pub fn start_telling(command: &mut Command) -> Result<Audit, Failure> {
+        Running::start_telling(command.stdout(Stdio::piped())).and_then(Audit::started)
     }
 
     /// A program whose report is read.
     pub fn of(command: &mut Command) -> Result<Audit, Failure> {
-        let (running, output) = Running::start(command.stdout(Stdio::piped()))?;
+        Running::start(command.stdout(Stdio::piped())).and_then(Audit::started)
+    }
+
+    fn started((running, output): (Running, Option<ChildStdout>)) -> Result<Audit, Failure> {
         let output = output.ok_or_else(|| Failure::Io(format!("{H2AUDIT}: its report cannot be read")))?;
         Ok(Audit { report: BufReader::with_capacity(BUFFER, output), running })
     }

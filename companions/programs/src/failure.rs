@@ -16,6 +16,8 @@ pub enum Failure {
     Io(String),
     /// There was not enough memory.
     Memory,
+    /// Nobody reads standard output any more, as behind `| head`. It ends the program by SIGPIPE, without a word.
+    Unread,
 }
 
 /// The status of a program that did what it was asked for.
@@ -28,6 +30,7 @@ impl Failure {
             Failure::Refused(_) => 3,
             Failure::Io(_) => 4,
             Failure::Memory => 5,
+            Failure::Unread => 141,
         }
     }
 
@@ -35,6 +38,15 @@ impl Failure {
         match self {
             Failure::Usage(why) | Failure::Refused(why) | Failure::Io(why) => why,
             Failure::Memory => "out of memory",
+            Failure::Unread => "nobody reads standard output",
+        }
+    }
+
+    /// Standard output could not be written.
+    pub fn of_output(error: &io::Error) -> Failure {
+        match error.kind() {
+            io::ErrorKind::BrokenPipe => Failure::Unread,
+            _ => Failure::from_io("standard output", error),
         }
     }
 

@@ -43,3 +43,8 @@ fn failure_of(name: &Path, error: &io::Error) -> Failure {
         false => Failure::of_file(name, error),
     }
 }
+
+/// Whether standard input is a terminal, where a program that reads a file from there would wait without a word.
+pub fn is_typed() -> bool {
+    atty::is(atty::Stream::Stdin)
+}

@@ -14,12 +14,13 @@ mod process;
 mod progress;
 mod run;
 mod running;
+mod said;
 mod signals;
 mod words;
 
 pub use audit::{program_named, Audit, H2AUDIT};
 pub use failure::{io_reason, Failure, Outcome};
-pub use input::Input;
+pub use input::{is_typed, Input};
 pub use messages::{printable, say};
 pub use output::{is_special, Output, BUFFER};
 pub use private_file::{temporary_failure, PrivateFile};

@@ -4,9 +4,11 @@ use std::ffi::OsStr;
 use std::io::Write;
 use std::os::unix::ffi::OsStrExt;
 
+use crate::progress::without_line;
+
 /// One line on standard error. Nobody is told where that is closed.
 pub fn say(program: &str, message: &str) {
-    let _ = writeln!(std::io::stderr(), "{program}: {message}");
+    without_line(|| drop(writeln!(std::io::stderr(), "{program}: {message}")));
 }
 
 /// A name on one line, whatever bytes it holds: what a terminal would act on is escaped.

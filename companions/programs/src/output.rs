@@ -8,11 +8,12 @@ use std::path::{Path, PathBuf};
 
 use crate::failure::Failure;
 use crate::process;
+use crate::progress::leave_terminal;
 use crate::signals::{Cleanup, Guard};
 
 /// So many bytes are written at a time.
 pub const BUFFER: usize = 1 << 17;
-/// Of the name that a file has before it is whole.
+/// How the name of a file begins before it is whole.
 const HIDDEN: &str = ".h2audit-";
 
 /// What is written: standard output for `-`, a pipe or a device that is there, or a file.
@@ -42,6 +43,7 @@ impl Output {
 
     fn of(name: &Path) -> io::Result<Output> {
         let (file, replaced) = if is_standard(name) {
+            leave_terminal();
             (File::from(io::stdout().as_fd().try_clone_to_owned()?), None)
         } else if is_special(name)? {
             (OpenOptions::new().write(true).open(name)?, None)
@@ -116,7 +118,7 @@ fn is_standard(name: &Path) -> bool {
 
 fn failure_of(name: &Path, error: &io::Error) -> Failure {
     match is_standard(name) {
-        true => Failure::from_io("standard output", error),
+        true => Failure::of_output(error),
         false => Failure::of_file(name, error),
     }
 }

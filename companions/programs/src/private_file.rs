@@ -1,7 +1,7 @@
 //! A temporary file without a name, which holds plaintext: it goes with the process, however that ends.
 
 use std::fs::File;
-use std::io::{self, BufReader, BufWriter, IntoInnerError, Seek, SeekFrom, Write};
+use std::io::{self, BufWriter, IntoInnerError, Seek, SeekFrom, Write};
 use std::os::unix::io::AsRawFd;
 use std::path::PathBuf;
 use std::{env, process};
@@ -26,10 +26,10 @@ impl PrivateFile {
     }
 
     /// What was written, to be read.
-    pub fn read_from_the_beginning(self) -> io::Result<BufReader<File>> {
+    pub fn read_from_the_beginning(self) -> io::Result<File> {
         let mut file = self.writer.into_inner().map_err(IntoInnerError::into_error)?;
         file.rewind()?;
-        Ok(BufReader::with_capacity(BUFFER, file))
+        Ok(file)
     }
 
     /// Takes back what was written.
@@ -48,6 +48,10 @@ impl PrivateFile {
 impl Write for PrivateFile {
     fn write(&mut self, bytes: &[u8]) -> io::Result<usize> {
         self.writer.write(bytes)
+    }
+
+    fn write_all(&mut self, bytes: &[u8]) -> io::Result<()> {
+        self.writer.write_all(bytes)
     }
 
     fn flush(&mut self) -> io::Result<()> {

@@ -10,6 +10,8 @@ use std::{env, fs, thread};
 
 use crate::failure::Failure;
 use crate::messages::printable;
+use crate::private_file::temporary_failure;
+use crate::said::Said;
 use crate::signals::{Cleanup, Guard};
 
 /// SIGHUP, SIGINT and SIGTERM, which a terminal or a service manager sends to all that it started.
@@ -35,6 +37,8 @@ fn is_program(path: &Path) -> bool {
 pub struct Running {
     guard: Guard,
     name: OsString,
+    /// It is told once the program is gone.
+    _said: Option<Said>,
 }
 
 impl Running {
@@ -47,7 +51,14 @@ impl Running {
             Ok((Cleanup::Process(child), output))
         });
         let (guard, output) = started.map_err(|error| Failure::of_file(&name, &error))?;
-        Ok((Running { guard, name }, output))
+        Ok((Running { guard, name, _said: None }, output))
+    }
+
+    /// Starts one that says on this program's standard error what is wrong.
+    pub fn start_telling(command: &mut Command) -> Result<(Running, Option<ChildStdout>), Failure> {
+        let said = Said::of(command).map_err(|error| temporary_failure(&error))?;
+        let (running, output) = Running::start(command)?;
+        Ok((Running { _said: said, ..running }, output))
     }
 
     /// The status, once the program has ended.

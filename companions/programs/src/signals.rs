@@ -13,6 +13,7 @@ use signal_hook::iterator::Signals;
 use signal_hook::low_level::emulate_default_handler;
 
 use crate::process;
+use crate::progress::without_line;
 
 /// What a signal removes, or ends.
 #[derive(Debug)]
@@ -96,6 +97,7 @@ pub fn end_cleanly() -> io::Result<()> {
         if let Some(number) = signals.forever().next() {
             let mut held = held();
             held.entries.drain(..).for_each(|(_, cleanup)| cleanup.take_away());
+            without_line(|| ());
             let _ = emulate_default_handler(number);
         }
     })?;

@@ -41,5 +41,5 @@ pub fn number(option: &str, word: &OsStr, least: u64, most: u64) -> Result<u64, 
 pub fn print(text: &str) -> Result<i32, Failure> {
     let mut output = io::stdout();
     let written = output.write_all(text.as_bytes()).and_then(|()| output.flush());
-    written.map(|()| 0).map_err(|error| Failure::from_io("standard output", &error))
+    written.map(|()| 0).map_err(|error| Failure::of_output(&error))
 }

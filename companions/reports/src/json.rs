@@ -2,43 +2,53 @@
 
 use std::io::{self, Write};
 
-/// A buffer of so many bytes goes to its output.
-const FULL: usize = 1 << 16;
+/// A buffer of so many bytes goes to its output, which need not copy so many into its own buffer.
+const FULL: usize = 1 << 17;
+/// Names that are shorter, with what stands around them, are put into the buffer at once.
+const SHORT: usize = 32;
 /// So many bytes of a text are looked at side by side.
 const STRIDE: usize = 32;
 
-/// JSON that is being written.
+/// JSON that is being written. Behind each value stands a comma, until what it is in ends.
 pub struct Json<'a> {
     buffer: Vec<u8>,
     to: &'a mut dyn Write,
-    /// Whether what comes next is the first of its list or object, or stands behind a name.
-    is_first: bool,
 }
 
 impl<'a> Json<'a> {
     pub fn new(to: &'a mut dyn Write) -> Json<'a> {
-        Json { buffer: Vec::with_capacity(2 * FULL), to, is_first: true }
+        Json { buffer: Vec::with_capacity(FULL + FULL / 2), to }
     }
 
     /// Gives on what was written, where that is much.
     pub fn give(&mut self) -> io::Result<()> {
         if self.buffer.len() >= FULL {
+            let has_comma = self.takes_comma();
             self.finish()?;
+            self.buffer.extend(has_comma.then_some(b','));
         }
         Ok(())
     }
 
     /// Gives on all that was written.
     pub fn finish(&mut self) -> io::Result<()> {
+        self.takes_comma();
         self.to.write_all(&self.buffer)?;
         self.buffer.clear();
         Ok(())
     }
 
+    /// Takes the comma behind the last value away, if there is one.
+    fn takes_comma(&mut self) -> bool {
+        let has_comma = self.buffer.last() == Some(&b',');
+        self.buffer.truncate(self.buffer.len() - usize::from(has_comma));
+        has_comma
+    }
+
     /// A line ends, and another document begins.
     pub fn line(&mut self) {
+        self.takes_comma();
         self.buffer.push(b'\n');
-        self.is_first = true;
     }
 
     pub fn object(&mut self, members: impl FnOnce(&mut Json<'a>)) {
@@ -55,56 +65,83 @@ impl<'a> Json<'a> {
 
     #[inline]
     pub fn open(&mut self, begin: u8) {
-        self.separate();
         self.buffer.push(begin);
-        self.is_first = true;
     }
 
     #[inline]
     pub fn close(&mut self, end: u8) {
-        self.buffer.push(end);
-        self.is_first = false;
+        match self.buffer.last_mut() {
+            Some(comma @ b',') => *comma = end,
+            _ => self.buffer.push(end),
+        }
+        self.buffer.push(b',');
     }
 
-    /// The name of a member, which needs no escapes.
-    #[inline]
+    /// The name of a member, which needs no escapes. Mostly the compiler knows it, and makes a number or two of it and
+    /// of what stands around it.
+    #[inline(always)]
     pub fn name(&mut self, name: &'static str) -> &mut Json<'a> {
-        self.separate();
-        self.buffer.push(b'"');
-        self.buffer.extend_from_slice(name.as_bytes());
-        self.buffer.extend_from_slice(b"\":");
-        self.is_first = true;
+        let (octets, end) = (name.as_bytes(), name.len() + 1);
+        if end + 2 > SHORT {
+            self.put(octets, b"\":");
+            return self;
+        }
+        let mut all = [b'"'; SHORT];
+        all[1..end].copy_from_slice(octets);
+        all[end + 1] = b':';
+        self.buffer.extend_from_slice(&all[..end + 2]);
         self
     }
 
     /// A word that needs no escapes.
     #[inline]
     pub fn word(&mut self, word: &'static str) {
-        self.separate();
+        self.put(word.as_bytes(), b"\",");
+    }
+
+    #[inline]
+    fn put(&mut self, octets: &[u8], behind: &[u8; 2]) {
         self.buffer.push(b'"');
-        self.buffer.extend_from_slice(word.as_bytes());
-        self.buffer.push(b'"');
+        self.buffer.extend_from_slice(octets);
+        self.buffer.extend_from_slice(behind);
     }
 
     pub fn text(&mut self, text: &str) {
-        self.separate();
         self.buffer.push(b'"');
         escape(text, &mut self.buffer);
-        self.buffer.push(b'"');
+        self.buffer.extend_from_slice(b"\",");
     }
 
-    pub fn number(&mut self, number: impl itoa::Integer) {
-        self.separate();
+    /// Most numbers are small.
+    #[inline]
+    pub fn number(&mut self, number: impl itoa::Integer + TryInto<u8> + Copy) {
+        match number.try_into() {
+            Ok(digit @ 0..=9) => self.buffer.extend_from_slice(&[b'0' + digit, b',']),
+            _ => self.digits(number),
+        }
+    }
+
+    #[inline(never)]
+    fn digits(&mut self, number: impl itoa::Integer) {
         self.buffer.extend_from_slice(itoa::Buffer::new().format(number).as_bytes());
+        self.buffer.push(b',');
+    }
+
+    /// The number divided by a thousand.
+    pub fn thousandths(&mut self, number: i64) {
+        let (whole, rest) = (number / 1_000, number.unsigned_abs() % 1_000);
+        let sign = if number < 0 && whole == 0 { "-" } else { "" };
+        self.buffer.extend_from_slice(format!("{sign}{whole}.{rest:03},").as_bytes());
     }
 
     pub fn truth(&mut self, is_true: bool) {
-        self.plain(if is_true { "true" } else { "false" });
+        let word: &[u8] = if is_true { b"true," } else { b"false," };
+        self.buffer.extend_from_slice(word);
     }
 
     #[inline]
     pub fn null(&mut self) {
-        self.plain("null");
+        self.buffer.extend_from_slice(b"null,");
     }
 
     pub fn some<T>(&mut self, value: Option<T>, write: impl FnOnce(&mut Json<'a>, T)) {
@@ -119,26 +156,12 @@ impl<'a> Json<'a> {
         self.some(text.filter(|text| !text.is_empty()), Json::text);
     }
 
-    pub fn some_number(&mut self, number: Option<impl itoa::Integer>) {
+    pub fn some_number(&mut self, number: Option<impl itoa::Integer + TryInto<u8> + Copy>) {
         self.some(number, |json, number| json.number(number));
     }
 
     pub fn some_word(&mut self, word: Option<&'static str>) {
         self.some(word, Json::word);
-    }
-
-    #[inline]
-    fn plain(&mut self, text: &str) {
-        self.separate();
-        self.buffer.extend_from_slice(text.as_bytes());
-    }
-
-    #[inline]
-    fn separate(&mut self) {
-        if !self.is_first {
-            self.buffer.push(b',');
-        }
-        self.is_first = false;
     }
 }
 
@@ -177,7 +200,26 @@ fn escape(text: &str, to: &mut Vec<u8>) {
 
 #[cfg(test)]
 mod tests {
-    use super::Json;
+    use super::{Json, FULL};
+
+    #[test]
+    fn what_was_given_on_goes_on() -> std::io::Result<()> {
+        let mut written = Vec::new();
+        let mut json = Json::new(&mut written);
+        json.open(b'[');
+        json.give()?;
+        for _ in 0..FULL {
+            json.number(10_u8);
+            json.give()?;
+        }
+        json.close(b']');
+        json.line();
+        json.list([i64::MIN, -9, 9, 10], |json, number| json.number(number));
+        json.finish()?;
+        let wanted = format!("[{}10]\n[-9223372036854775808,-9,9,10]", "10,".repeat(FULL - 1));
+        assert_eq!(String::from_utf8_lossy(&written), wanted);
+        Ok(())
+    }
 
     #[test]
     fn values_and_escapes() {
@@ -191,13 +233,14 @@ mod tests {
             json.name("f").truth(true);
             json.name("g").some_number(None::<u32>);
             json.name("h").word("x");
+            json.name("i").list([1_234_567_i64, -1, -2_005, 0], |json, nanos| json.thousandths(nanos));
         });
         json.line();
         json.number(7);
         let finished = json.finish();
         assert!(finished.is_ok());
         let wanted = r#"{"a":"\"\\\n\r\t\b\f\u0001\u007f\u00b5\u6f22\ud83d\ude00~","b":[1,-2],"c":{"d":null},"e":[],"#;
-        let wanted = format!("{wanted}{}\n7", r#""f":true,"g":null,"h":"x"}"#);
+        let wanted = format!("{wanted}{}\n7", r#""f":true,"g":null,"h":"x","i":[1234.567,-0.001,-2.005,0.000]}"#);
         assert_eq!(String::from_utf8_lossy(&written), wanted);
     }
 }

@@ -19,6 +19,6 @@ pub use blame::{section_of, who_is_to_blame};
 pub use kinds::{is_fault, Blame, Kind, Side};
 pub use lines::{finding_in, Capture, Finding, FindingLine, Flow, Form, Line, Opening, Stall};
 pub use notes::{Note, Pairing};
-pub use numbers::{duration, grouped};
+pub use numbers::{count, duration, grouped};
 pub use reading::{read_line, ReadError, Reader, LONGEST_LINE};
 pub use sentences::{sentence_of, what_happened};

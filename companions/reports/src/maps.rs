@@ -1,5 +1,5 @@
 //! Reads maps of imports line by line (docs/MAP.md): which packet of which file completed a record of the capture that
-//! was made, and what became of each connection.
+//! was made, and what became of each connection. Of records that were made up it is the packet that they stand for.
 
 use std::fmt;
 use std::io::{self, BufRead};
@@ -8,6 +8,8 @@ use crate::cursor::Cursor;
 use crate::reading::read_line;
 
 const FIRST_LINE: &str = "h2audit-map 1";
+/// The first line of a map of connections that were joined.
+const OF_JOINED: &str = "h2audit-map 2";
 /// More than any line of a map has: a path may have 4,096 bytes, of which each may be three letters.
 const LONGEST_LINE: usize = 65_536;
 
@@ -53,15 +55,26 @@ pub struct MapReader<R> {
     source: R,
     line: Vec<u8>,
     number: u64,
+    is_joined: bool,
 }
 
 impl<R: BufRead> MapReader<R> {
     pub fn new(source: R) -> Result<MapReader<R>, MapError> {
-        let mut reader = MapReader { source, line: Vec::new(), number: 1 };
+        MapReader::of(source, false)
+    }
+
+    /// Also of a map of connections that were joined.
+    pub fn with_joined(source: R) -> Result<MapReader<R>, MapError> {
+        MapReader::of(source, true)
+    }
+
+    fn of(source: R, takes_joined: bool) -> Result<MapReader<R>, MapError> {
+        let mut reader = MapReader { source, line: Vec::new(), number: 1, is_joined: false };
         read_line(&mut reader.source, &mut reader.line, LONGEST_LINE)?;
         let text = std::str::from_utf8(&reader.line).map_err(|_| MapError::NoMap)?;
         let text = text.strip_suffix('\n').unwrap_or(text);
-        if text == FIRST_LINE {
+        reader.is_joined = takes_joined && text == OF_JOINED;
+        if reader.is_joined || text == FIRST_LINE {
             return Ok(reader);
         }
         let version = text.strip_prefix("h2audit-map ").and_then(|version| version.parse().ok());
@@ -78,7 +91,8 @@ impl<R: BufRead> MapReader<R> {
         let text = std::str::from_utf8(&self.line).map_err(|_| MapError::NoLine(self.number))?;
         let text = text.strip_suffix('\n').unwrap_or(text);
         let line = match text.split(' ').next() {
-            Some("record") => record(text),
+            Some("record") => record(text, "record "),
+            Some("made") if self.is_joined => record(text, "made "),
             Some("file") => file(text),
             _ => Some(MapLine::Other(text)),
         };
@@ -96,9 +110,9 @@ impl<R: BufRead> MapReader<R> {
     }
 }
 
-fn record(text: &str) -> Option<MapLine<'static>> {
+fn record(text: &str, word: &str) -> Option<MapLine<'static>> {
     let mut line = Cursor::new(text);
-    line.literal("record ")?;
+    line.literal(word)?;
     let number = line.number()?;
     line.literal(" file ")?;
     let file = line.number()?;
@@ -166,6 +180,9 @@ mod tests {
         assert_eq!(refused(b"h2audit-map 3\n").as_deref(), Some(version));
         let joined = "a map of connections that were joined (--joined) is not read here";
         assert_eq!(refused(b"h2audit-map 2\n").as_deref(), Some(joined));
+        let mut of_joined = MapReader::with_joined(&b"h2audit-map 2\nmade 1 file 1 packet 2\n"[..]).ok();
+        let made = of_joined.as_mut().and_then(|reader| reader.next_line().ok());
+        assert_eq!(made, Some(Some(MapLine::Record { number: 1, file: 1, packet: 2 })));
         let mut reader = MapReader::new(&b"h2audit-map 1\nrecord 1 packet 2\n"[..]).ok();
         let said = reader.as_mut().and_then(|reader| reader.next_line().err()).map(|error| error.to_string());
         assert_eq!(said.as_deref(), Some("line 2 is no line of a map"));

@@ -14,6 +14,13 @@ pub fn grouped(number: impl Into<i128>) -> String {
     text
 }
 
+/// So many of something, as "1 packet" and "2 packets".
+pub fn count(number: impl Into<i128>, one: &str) -> String {
+    let number = number.into();
+    let many = if number == 1 { "" } else { "s" };
+    format!("{} {one}{many}", grouped(number))
+}
+
 /// A time in a unit that fits, exactly.
 pub fn duration(nanos: i128) -> String {
     let size = nanos.unsigned_abs();
@@ -32,7 +39,12 @@ pub fn duration(nanos: i128) -> String {
 
 #[cfg(test)]
 mod tests {
-    use super::{duration, grouped};
+    use super::{count, duration, grouped};
+
+    #[test]
+    fn one_and_many() {
+        assert_eq!([0, 1, 1200].map(|number: u64| count(number, "byte")), ["0 bytes", "1 byte", "1,200 bytes"]);
+    }
 
     #[test]
     fn times_have_a_unit_that_fits() {

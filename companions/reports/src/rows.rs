@@ -12,19 +12,22 @@ use crate::lines::{Capture, Finding, Flow, Form, Line, Opening, Stall};
 use crate::reading::LONGEST_LINE;
 
 /// The first line of all rows.
-const FIRST_LINE: &[u8] = b"h2audit-rows 1\n";
+const FIRST_LINE: &[u8] = b"h2audit-rows 3\n";
 
 /// The rows of a report on their way. A connection's row comes when all of its lines did.
 pub struct Rows<'a> {
     json: Json<'a>,
     line: Vec<u8>,
-    connection: Option<Connection>,
+    connection: Option<ConnectionLines>,
     unopened: u64,
+    /// What became of the pair of endpoints whose line comes next.
+    fate: Option<String>,
 }
 
 /// A connection whose lines come.
-struct Connection {
+struct ConnectionLines {
     opening: Opening,
+    joined: Option<&'static str>,
     /// The time of its last packet, where that is known: a stall that did not end lasts up to it.
     last: Option<i64>,
     flows: [Option<Flow>; 2],
@@ -46,7 +49,7 @@ pub fn row<'a>(json: &mut Json<'a>, values: impl FnOnce(&mut Json<'a>)) -> io::R
 impl<'a> Rows<'a> {
     pub fn begin(to: &'a mut dyn Write) -> io::Result<Rows<'a>> {
         to.write_all(FIRST_LINE)?;
-        Ok(Rows { json: Json::new(to), line: Vec::new(), connection: None, unopened: 0 })
+        Ok(Rows { json: Json::new(to), line: Vec::new(), connection: None, unopened: 0, fate: None })
     }
 
     /// Takes a piece of the report. What is no line of one makes no row.
@@ -65,6 +68,18 @@ impl<'a> Rows<'a> {
         if let Some(connection) = &mut self.connection {
             connection.last = nanos;
         }
+    }
+
+    /// The connection whose lines come was joined in this way.
+    pub fn joined(&mut self, how: &'static str) {
+        if let Some(connection) = &mut self.connection {
+            connection.joined = Some(how);
+        }
+    }
+
+    /// The pair of endpoints whose line comes next was joined, or not for some reason.
+    pub fn fate(&mut self, fate: Option<String>) {
+        self.fate = fate;
     }
 
     /// The report is over.
@@ -93,12 +108,15 @@ impl<'a> Rows<'a> {
             }),
             (Line::Unopened { sender, receiver, segments }, _) => {
                 self.unopened += 1;
-                let position = self.unopened;
-                row(&mut self.json, |json| unopened(json, position, [&sender, &receiver], segments))
+                let (position, fate) = (self.unopened, self.fate.take());
+                row(&mut self.json, |json| {
+                    unopened(json, position, [&sender, &receiver], segments);
+                    json.some_text(fate.as_deref());
+                })
             }
             (Line::Opening(opening), _) => {
                 self.end_of_connection()?;
-                self.connection = Some(Connection::of(opening));
+                self.connection = Some(ConnectionLines::of(opening));
                 Ok(())
             }
             (Line::Flow(flow), Some(connection)) => {
@@ -108,11 +126,13 @@ impl<'a> Rows<'a> {
             }
             (Line::Finding(one), Some(connection)) => {
                 connection.note(&one);
-                row(&mut self.json, |json| finding(json, connection, &one))
+                let (number, position) = (connection.opening.number, connection.position);
+                row(&mut self.json, |json| finding(json, number, position, &one, None))
             }
             (Line::Stall(one), Some(connection)) => {
                 connection.position += 1;
-                row(&mut self.json, |json| stall(json, connection, &one))
+                let (number, position) = (connection.opening.number, connection.position);
+                row(&mut self.json, |json| stall(json, number, position, &connection.stood_still(&one)))
             }
             (Line::Audited { stopped_at }, Some(connection)) => {
                 connection.stopped_at = stopped_at;
@@ -124,16 +144,26 @@ impl<'a> Rows<'a> {
 
     fn end_of_connection(&mut self) -> io::Result<()> {
         match self.connection.take() {
-            Some(one) => row(&mut self.json, |json| connection(json, &one)),
+            Some(one) => row(&mut self.json, |json| {
+                connection(json, &one.opening, &one.flows, one.stopped_at, one.joined);
+            }),
             None => Ok(()),
         }
     }
 }
 
-impl Connection {
-    fn of(opening: Opening) -> Connection {
+impl ConnectionLines {
+    fn of(opening: Opening) -> ConnectionLines {
         let flows = [None, None];
-        Connection { opening, last: None, flows, stopped_at: None, begun: HashMap::new(), position: 0 }
+        ConnectionLines {
+            opening,
+            joined: None,
+            last: None,
+            flows,
+            stopped_at: None,
+            begun: HashMap::new(),
+            position: 0,
+        }
     }
 
     fn note(&mut self, finding: &Finding) {
@@ -142,6 +172,20 @@ impl Connection {
             self.begun.insert(finding.window(), finding.time);
         } else if finding.kind.is_stall_end() {
             self.begun.remove(&finding.window());
+        }
+    }
+
+    fn stood_still(&self, one: &Stall) -> StoodStill {
+        StoodStill {
+            side: one.side,
+            stream: one.stream,
+            first: Some(one.begin),
+            last: one.end.map(|(frame, _)| frame),
+            nanos: match one.end {
+                Some((_, nanos)) => Some(i128::from(nanos)),
+                None => self.up_to_last_packet((one.side, one.stream)),
+            },
+            grade: None,
         }
     }
 
@@ -167,8 +211,15 @@ fn unopened(json: &mut Json<'_>, position: u64, ends: [&str; 2], segments: u64) 
     json.number(segments);
 }
 
-fn connection(json: &mut Json<'_>, one: &Connection) {
-    let Opening { number, client, server, record, form } = &one.opening;
+/// The row of a connection: what opened it, and how it was joined where it began before the capture.
+pub fn connection(
+    json: &mut Json<'_>,
+    opening: &Opening,
+    flows: &[Option<Flow>; 2],
+    stopped_at: Option<u64>,
+    joined: Option<&'static str>,
+) {
+    let Opening { number, client, server, record, form } = opening;
     json.word("connections");
     json.number(*number);
     json.text(client);
@@ -180,19 +231,21 @@ fn connection(json: &mut Json<'_>, one: &Connection) {
     };
     json.text(&form.words());
     json.some_number(frames);
-    for flow in &one.flows {
+    for flow in flows {
         json.some_number(flow.as_ref().map(|flow| flow.bytes));
         json.some_number(flow.as_ref().and_then(|flow| flow.gap));
         json.some_number(flow.as_ref().map(|flow| flow.tail));
         json.some_text(flow.as_ref().and_then(|flow| flow.end.as_deref()));
     }
-    json.some_number(one.stopped_at);
+    json.some_number(stopped_at);
+    json.some_word(joined);
 }
 
-fn finding(json: &mut Json<'_>, one: &Connection, finding: &Finding) {
+/// The row of a finding, and how sure it is where something of its connection is inferred.
+pub fn finding(json: &mut Json<'_>, connection: u64, position: u64, finding: &Finding, grade: Option<&'static str>) {
     json.word("findings");
-    json.number(one.opening.number);
-    json.number(one.position);
+    json.number(connection);
+    json.number(position);
     json.number(finding.frame);
     json.number(finding.record);
     json.number(finding.time);
@@ -201,20 +254,31 @@ fn finding(json: &mut Json<'_>, one: &Connection, finding: &Finding) {
     json.number(finding.stream);
     json.number(finding.value);
     json.word(finding.who_broke_it().map_or("nobody", Side::name));
+    json.some_word(grade);
 }
 
-fn stall(json: &mut Json<'_>, one: &Connection, stall: &Stall) {
-    let nanos = match stall.end {
-        Some((_, nanos)) => Some(i128::from(nanos)),
-        None => one.up_to_last_packet((stall.side, stall.stream)),
-    };
+/// A stall: its frames, of which one that began before the capture has no first, and one that did not end no last.
+#[derive(Clone, Copy, Debug)]
+pub struct StoodStill {
+    pub side: Side,
+    pub stream: u64,
+    pub first: Option<u64>,
+    pub last: Option<u64>,
+    pub nanos: Option<i128>,
+    /// How sure it is, where something of its connection is inferred.
+    pub grade: Option<&'static str>,
+}
+
+/// The row of a stall.
+pub fn stall(json: &mut Json<'_>, connection: u64, position: u64, one: &StoodStill) {
     json.word("stalls");
-    json.number(one.opening.number);
-    json.number(one.position);
-    json.word(stall.side.name());
-    json.number(stall.stream);
-    json.number(stall.begin);
-    json.some_number(stall.end.map(|(frame, _)| frame));
-    json.some_number(nanos);
-    json.word(stall.side.other().name());
+    json.number(connection);
+    json.number(position);
+    json.word(one.side.name());
+    json.number(one.stream);
+    json.some_number(one.first);
+    json.some_number(one.last);
+    json.some_number(one.nanos);
+    json.word(one.side.other().name());
+    json.some_word(one.grade);
 }

@@ -21,7 +21,7 @@ pub struct KeyStream {
 }
 
 impl KeyStream {
-    /// Of a key of 32 bytes, for the byte at an offset of the content, which begins with block 1 (RFC 8439, 2.8).
+    /// The stream of a key of 32 bytes, from an offset of the content on, which begins with block 1 (RFC 8439, 2.8).
     pub fn new(key: &[u8], offset: usize) -> KeyStream {
         let mut state = [0; 16];
         state[..4].copy_from_slice(&CONSTANTS);

@@ -75,7 +75,7 @@ impl Side {
 }
 
 /// Takes the segments of both sides, and emits plaintext.
-pub struct Connection {
+pub struct TlsConnection {
     handshake: Handshake,
     sides: [Side; 2],
     /// What waits of a connection that is read from its middle on; none where both sides are settled.
@@ -84,18 +84,21 @@ pub struct Connection {
     queue: Option<Box<Queue>>,
     refused: Option<Reason>,
     count: u64,
+    /// Which sides had no hole when nothing more of it was read.
+    is_whole: [bool; 2],
 }
 
-impl Connection {
+impl TlsConnection {
     /// Of this number; connections count in the order of openings.
-    pub fn new(number: u64, shared: &Shared) -> Connection {
-        Connection {
+    pub fn new(number: u64, shared: &Shared) -> TlsConnection {
+        TlsConnection {
             handshake: Handshake::new(number, shared.more_keys),
             sides: Default::default(),
             middle: None,
             queue: None,
             refused: None,
             count: 0,
+            is_whole: [false; 2],
         }
     }
 
@@ -118,6 +121,13 @@ impl Connection {
     /// Records of application data that held some.
     pub fn count(&self) -> u64 {
         self.count
+    }
+
+    /// How many bytes wait: for keys, for what opens the sides, or behind holes.
+    pub fn waiting(&self) -> usize {
+        let queued = self.queue.as_ref().map_or(0, |queue| queue.bytes);
+        let held: usize = self.sides.iter().map(|side| side.flow.cost()).sum();
+        queued + held + self.middle.as_ref().map_or(0, |middle| middle.cost())
     }
 
     #[inline]

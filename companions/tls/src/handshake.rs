@@ -9,6 +9,8 @@
 mod joined;
 mod protected;
 
+use std::collections::VecDeque;
+
 use crate::connection::Shared;
 use crate::hellos::{self, ClientHello, Messages, Random, ServerHello};
 use crate::key_log::{Keys, Label, OF_SIDES};
@@ -40,8 +42,9 @@ struct Half {
     messages: Messages,
     opener: Option<Box<Opener>>,
     secret: Vec<u8>,
-    /// Key updates before this secret.
+    /// Key updates before this secret, and the secrets before the last ones, as many as are looked for behind a gap.
     updates: u32,
+    earlier: VecDeque<Vec<u8>>,
     /// Records, with the keys in use.
     opened: u64,
     /// Passes over early data that was rejected.

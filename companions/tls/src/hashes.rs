@@ -118,7 +118,7 @@ impl Hmac {
         outer.finish()
     }
 
-    /// Of all this data together.
+    /// The digest of all this data together.
     pub fn of(&self, data: &[&[u8]]) -> Digest {
         let mut code = self.clone();
         data.iter().for_each(|part| code.update(part));

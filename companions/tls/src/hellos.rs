@@ -26,7 +26,7 @@ const RETRY_RANDOM: Random = [
 ];
 const HEADER_LENGTH: usize = 4;
 const LONGEST_MESSAGE: usize = 1 << 20;
-/// Of a hello: version and random come first.
+/// Where the random of a hello stands, behind its version.
 const RANDOM_BEGIN: usize = 2;
 const RANDOM_END: usize = 34;
 

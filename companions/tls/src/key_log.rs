@@ -154,7 +154,7 @@ impl Keys {
         }
     }
 
-    /// Of a line that is longer than any line of a key log, the beginning stands for all of it.
+    /// The beginning stands for all of a line that is longer than any line of a key log.
     fn read_bytes(&mut self, mut file: impl BufRead, met: &mut impl FnMut(Random)) -> io::Result<()> {
         let mut line = Vec::new();
         let mut is_new = true;

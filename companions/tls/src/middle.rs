@@ -12,7 +12,7 @@ use crate::connection::Shared;
 use crate::handshake::Stage;
 use crate::reason::Reason;
 use crate::sample::{is_tls_1_2, sealed_in, Sample, Sealed};
-use crate::search::{Found, Given};
+use crate::search::{FoundSecret, Given};
 use crate::{CLIENT, SERVER};
 
 /// So much of a side waits at most, its segments' places counted too.
@@ -36,15 +36,15 @@ pub struct Middle {
     /// What is there is looked at again once it has so many bytes, where it was in vain.
     next_look: usize,
     /// What opened the sides before some of them was lost; nothing where nothing was read before.
-    before: Vec<Found>,
+    before: Vec<FoundSecret>,
     /// What opens the side that was found first.
-    found: Option<Found>,
+    found: Option<FoundSecret>,
 }
 
 /// What became of a side that waited.
 pub enum Settled {
     /// Its records are opened, from a place on.
-    Opens(Box<Found>, usize),
+    Opens(Box<FoundSecret>, usize),
     Ends(Reason),
     /// It had so many bytes, and no whole record.
     Skipped(usize),
@@ -73,8 +73,13 @@ impl Default for Middle {
 
 impl Middle {
     /// Of sides of which this opened the next record, before some of them was lost.
-    pub fn behind(before: Vec<Found>) -> Middle {
+    pub fn behind(before: Vec<FoundSecret>) -> Middle {
         Middle { before, ..Middle::default() }
+    }
+
+    /// What waits costs so many bytes.
+    pub fn cost(&self) -> usize {
+        self.costs.iter().sum()
     }
 
     pub fn waits(&self, side: usize) -> bool {
@@ -138,7 +143,7 @@ impl Middle {
         shared: &mut Shared,
         records: &[Vec<Sealed<'_>>; 2],
         is_last: bool,
-    ) -> ([Option<Settled>; 2], Option<Found>) {
+    ) -> ([Option<Settled>; 2], Option<FoundSecret>) {
         let mut settled = [None, None];
         let mut samples = [CLIENT, SERVER].map(|side| Sample::of(&records[side]));
         let mut found = self.found.clone();
@@ -232,15 +237,15 @@ fn first_opened(
     shared: &mut Shared,
     records: &[Sealed<'_>],
     sample: Option<&Sample<'_>>,
-    found: Found,
-) -> (Found, usize) {
+    found: FoundSecret,
+) -> (FoundSecret, usize) {
     let (mut found, mut index) = (found, sample.map_or(0, |sample| sample.index));
     loop {
         if found.stage == Stage::Handshake {
             index = 0;
         }
         if let Some(number) = found.number.checked_sub(index) {
-            return (Found { number, ..found }, 0);
+            return (FoundSecret { number, ..found }, 0);
         }
         let behind = (index - found.number) as usize;
         let mut samples = [None, None];
@@ -250,7 +255,7 @@ fn first_opened(
             (Ok(earlier), Some(sample)) => (found, index) = (earlier, sample.index),
             _ => {
                 let before = records[..behind].iter().map(Sealed::length).sum();
-                return (Found { number: 0, ..found }, before);
+                return (FoundSecret { number: 0, ..found }, before);
             }
         }
     }

@@ -19,7 +19,7 @@ pub struct Sealer {
 }
 
 impl Sealer {
-    /// By a secret that is this byte again and again.
+    /// Seals by a secret that is this byte again and again.
     pub fn new(code: u16, byte: u8) -> Sealer {
         let suite = suite_of(code).unwrap();
         Sealer { secret: vec![byte; suite.hash.length()], suite, number: 0 }

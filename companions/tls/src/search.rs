@@ -20,7 +20,7 @@ mod entries;
 #[cfg(test)]
 mod tests;
 
-pub use entries::{Found, Given};
+pub use entries::{FoundSecret, Given};
 
 const MOST_NUMBERS: u64 = 1 << 20;
 const MOST_SECONDS: u64 = 60;
@@ -55,7 +55,12 @@ impl Search {
     }
 
     /// What opens a record of one of two sides.
-    pub fn find(&mut self, keys: &Keys, samples: &[Option<Sample<'_>>; 2], given: &Given<'_>) -> Result<Found, Reason> {
+    pub fn find(
+        &mut self,
+        keys: &Keys,
+        samples: &[Option<Sample<'_>>; 2],
+        given: &Given<'_>,
+    ) -> Result<FoundSecret, Reason> {
         let begun = Instant::now();
         let left = Duration::from_secs(self.seconds).saturating_sub(self.spent) / SHARE;
         let (numbers, seconds) = (self.numbers, self.seconds);
@@ -94,7 +99,7 @@ struct Attempt<'a> {
 }
 
 impl Attempt<'_> {
-    fn find(&mut self, keys: &Keys, given: &Given<'_>) -> Result<Found, Reason> {
+    fn find(&mut self, keys: &Keys, given: &Given<'_>) -> Result<FoundSecret, Reason> {
         let mut entries = entries_of(keys, given);
         if entries.is_empty() {
             return Err(Reason::NoKey);
@@ -113,7 +118,7 @@ impl Attempt<'_> {
         Err(Reason::SearchedNumbers(self.numbers))
     }
 
-    fn find_among(&mut self, entries: &[Entry]) -> Result<Option<Found>, Reason> {
+    fn find_among(&mut self, entries: &[Entry]) -> Result<Option<FoundSecret>, Reason> {
         let waves = waves(self.numbers);
         for turn in 0..waves.len() + LAG {
             for (entry, suite) in entries.iter().flat_map(|entry| entry.suites.iter().map(move |suite| (entry, suite)))
@@ -131,7 +136,7 @@ impl Attempt<'_> {
         Ok(None)
     }
 
-    fn find_by(&mut self, entry: &Entry, suite: &Suite, numbers: Range<u64>) -> Result<Option<Found>, Reason> {
+    fn find_by(&mut self, entry: &Entry, suite: &Suite, numbers: Range<u64>) -> Result<Option<FoundSecret>, Reason> {
         let first = |number: u64| entry.from.saturating_add(number);
         for (side, sample) in self.samples.iter().enumerate().filter(|(side, _)| entry.may_be_of(*side)) {
             let tried = match sample {

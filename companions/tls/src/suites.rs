@@ -33,9 +33,9 @@ pub struct Suite {
     pub(crate) mode: Mode,
     pub(crate) cipher: CipherKind,
     pub(crate) key_length: usize,
-    /// Of the key schedule.
+    /// The hash of the key schedule.
     pub(crate) hash: Hash,
-    /// Of each record, where the mode has no tag of its own.
+    /// The MAC of each record, where the mode has no tag of its own.
     pub(crate) mac: Option<Hash>,
 }
 

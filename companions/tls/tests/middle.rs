@@ -6,7 +6,7 @@ use std::fs::{self, File};
 use std::path::{Path, PathBuf};
 
 use captures::{flags, placed, swapped, Arrival, Decoder, Ends, Item, Reader, Source};
-use tls::{Connection, Emit, Known, Reason, Shared, CLIENT, SERVER};
+use tls::{Emit, Known, Reason, Shared, TlsConnection, CLIENT, SERVER};
 
 /// A record's packet, side, digest and length.
 type Row = (u64, usize, String, usize);
@@ -36,7 +36,7 @@ impl Emit for Plain {
 
 /// A connection of which the first packets are left out.
 struct Cut {
-    connection: Connection,
+    connection: TlsConnection,
     plain: Plain,
     /// The number before that of the first byte of each side.
     initial: [Option<u32>; 2],
@@ -75,7 +75,7 @@ fn read_file(file: &Path, mut shared: Shared, before: u64) -> (Vec<Cut>, u64) {
         let pair = segment.ends.min(other);
         let place = *places.entry(pair).or_insert(cuts.len());
         if place == cuts.len() {
-            let connection = Connection::from_middle(place as u64, &shared);
+            let connection = TlsConnection::from_middle(place as u64, &shared);
             cuts.push(Cut { connection, plain: Plain::default(), initial: [None; 2], has_records: false });
         }
         let Cut { connection, plain, initial, .. } = &mut cuts[place];

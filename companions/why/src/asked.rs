@@ -2,7 +2,7 @@
 
 use std::collections::{BinaryHeap, HashMap, HashSet};
 
-use explain::answer::{CauseKind, CauseWhy, ConnectionSaid, Nanos, Request, Share, StallWhy};
+use explain::answer::{CauseKind, CauseWhy, ConnectionSaid, Legs, Nanos, Request, RequestLegs, Share, StallWhy};
 use explain::intervals::{disjoint, Interval};
 use explain::ReportedConnection;
 use reports::Side;
@@ -92,11 +92,12 @@ pub struct Shown {
     pub asked: Vec<(Matter, Lost)>,
 }
 
-/// What puts requests first: a fault on their streams, that they hung, and for how long they were held back.
-type Rank = (bool, bool, Nanos, Nanos, usize, usize);
+/// What puts requests first: a fault on their streams, that they hung, and for how long they were held back. What a back
+/// request of a proxy waited for is told of the front one that it carried, which is before it.
+type Rank = (bool, bool, bool, Nanos, Nanos, usize, usize);
 
 impl Shown {
-    pub fn of<'a>(connections: impl Iterator<Item = &'a ConnectionSaid>) -> Shown {
+    pub fn of<'a>(connections: impl Iterator<Item = &'a ConnectionSaid>, legs: &Legs) -> Shown {
         let (mut sums, mut worst, mut number) = (Sums::default(), BinaryHeap::<Rank>::new(), 0);
         for (place, said) in connections.enumerate() {
             let faults: HashSet<u64> = said.faults.iter().map(|fault| fault.finding.stream).collect();
@@ -105,7 +106,9 @@ impl Shown {
                     sums.add(matter, intervals, request.cause.nanos);
                 }
                 let is_faulty = faults.contains(&u64::from(request.stream));
-                worst.push((!is_faulty, !request.is_hung, -held(&request), -request.cause.nanos, place, at));
+                let (is_back, asked) = legs.of(place, at).map_or((false, 0), by_legs);
+                let held = held(&request).max(asked);
+                worst.push((!is_faulty, !request.is_hung, is_back, -held, -request.cause.nanos, place, at));
                 if worst.len() > MOST_REQUESTS {
                     worst.pop();
                 }
@@ -120,11 +123,14 @@ impl Shown {
     }
 }
 
+/// Whether a request is a back one alone, and the time that someone took of a front one.
+fn by_legs(legs: &RequestLegs) -> (bool, Nanos) {
+    (legs.carries.is_some() && legs.carried_by.is_empty(), legs.ask.map_or(0, |ask| ask.nanos))
+}
+
 fn held(request: &Request) -> Nanos {
-    let shares = |side: &explain::answer::Direction| {
-        [Share::StreamStall, Share::ConnectionStall, Share::Tcp].iter().map(|share| side.shares[*share as usize]).sum()
-    };
-    request.sides.iter().map(shares).fold(0, |sum: Nanos, nanos: Nanos| sum.saturating_add(nanos))
+    let held = request.sides.iter().map(|side| side.stalled() + side.shares[Share::Tcp as usize]);
+    held.fold(0, Nanos::saturating_add)
 }
 
 /// The shares of a direction's life that stand for a cause.

@@ -83,7 +83,7 @@ fn flows(json: &mut Json<'_>, flows: &[Flow]) {
 }
 
 /// The findings of a connection, in the order of a report.
-fn notes_of(said: &ConnectionSaid) -> Vec<Note> {
+pub fn notes_of(said: &ConnectionSaid) -> Vec<Note> {
     let mut found: Vec<Finding> = said.faults.iter().map(|fault| fault.finding.clone()).collect();
     found.iter_mut().zip(&said.faults).for_each(|(finding, fault)| finding.record = fault.at.packet);
     for stall in &said.stalls {

@@ -5,8 +5,7 @@ use std::rc::Rc;
 
 use explain::answer::{CauseKind, Nanos, Request, Share};
 
-use crate::gates::stalled;
-use crate::summing::{is_held, Connection, Whole};
+use crate::summing::{is_held, SummedConnection, Whole};
 
 /// A request is better or worse where its stalls changed by 1 ms and by 1 % of the longer life, at least.
 const LEAST: u128 = 1_000_000;
@@ -21,7 +20,7 @@ type Key = (Option<Rc<str>>, Option<Rc<str>>);
 #[derive(Clone)]
 pub struct One<'a> {
     pub name: Rc<str>,
-    pub connection: &'a Connection<'a>,
+    pub connection: &'a SummedConnection<'a>,
     index: usize,
     pub nanos: Nanos,
     pub stalled: Nanos,
@@ -67,13 +66,13 @@ struct Named<'a> {
 }
 
 impl<'a> One<'a> {
-    fn new(name: Rc<str>, connection: &'a Connection<'a>, index: usize, request: &Request) -> One<'a> {
+    fn new(name: Rc<str>, connection: &'a SummedConnection<'a>, index: usize, request: &Request) -> One<'a> {
         One {
             name,
             connection,
             index,
             nanos: request.nanos(),
-            stalled: stalled(request),
+            stalled: request.stalled(),
             tcp: request.sides.iter().map(|said| said.shares[Share::Tcp as usize]).max().unwrap_or(0),
             is_held: is_held(request) || request.cause.kind == CauseKind::Tcp,
             is_hung: request.is_hung,

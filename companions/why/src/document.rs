@@ -1,10 +1,12 @@
 //! The answer for machines: one document, or a line for each request. companions/why/schema.json says what stands in it.
 
+mod names;
+
 use std::io::{self, Write};
 
 use explain::answer::{
-    Answer, At, Cause, CauseKind, CauseWhy, Certainty, ConnectionSaid, Direction, Ended, FaultSaid, Files, Holder,
-    Nanos, Place, Request, RoundTrip, Share, Signal, Source, Span, StallEnd, StallSaid, StallWhy, Sure,
+    Answer, At, ConnectionSaid, Direction, Ended, FaultSaid, Files, Holder, Nanos, Request, RoundTrip, Share, Shares,
+    Signal, Span, StallSaid, Sure,
 };
 use reports::{section_of, sentence_of, Side};
 
@@ -13,10 +15,14 @@ use crate::charts;
 use crate::gates::is_unanswered;
 use crate::joined;
 use crate::json::Json;
+use crate::legs;
 use crate::life::life_of;
 use crate::phrases::{how_name, Phrases};
-use crate::summing::{Connection, Summary, Whole};
+use crate::summing::{Summary, SummedConnection, Whole};
 use crate::wording::{code_name, grpc_name, SIDES};
+
+pub use names::{cause_side, certainty_name, kind_name, signal_word, why_name};
+use names::{place_name, source_name, stall_end_name, stall_name};
 
 const VERSION: u32 = 1;
 
@@ -49,9 +55,10 @@ pub fn write(whole: &Whole<'_>, shown: Option<&Shown>, to: &mut dyn Write) -> io
     json.name("connections").open(b'[');
     for (place, one) in whole.connections.iter().enumerate() {
         let requests = shown.and_then(|shown| shown.requests.get(place));
-        connection(&mut json, one, requests.map(Vec::as_slice), &answer.files)?;
+        connection(&mut json, one, requests.map(Vec::as_slice), answer)?;
     }
     json.close(b']');
+    json.name("hops").list(&answer.legs.hops, |json, one| legs::hop(json, one, answer));
     json.close(b'}');
     json.line();
     json.finish()
@@ -61,13 +68,14 @@ pub fn write(whole: &Whole<'_>, shown: Option<&Shown>, to: &mut dyn Write) -> io
 pub fn write_lines(whole: &Whole<'_>, to: &mut dyn Write) -> io::Result<()> {
     let mut json = Json::new(to);
     for one in whole.audited() {
-        for found in one.said.requests.iter() {
+        for (place, found) in one.said.requests.iter().enumerate() {
             json.object(|json| {
                 json.name("h2audit_why").number(VERSION);
                 json.name("connection").number(one.said.number);
                 json.name("client_address").text(&one.said.client);
                 json.name("server_address").text(&one.said.server);
                 request(json, &found, &one.phrases, &whole.answer.files);
+                legs::request(json.name("legs"), &found, (one.place, place), whole.answer);
             });
             json.line();
             json.give()?;
@@ -111,8 +119,13 @@ pub fn place(json: &mut Json<'_>, at: Option<At>, files: &Files) {
 }
 
 /// A connection with all its requests; or with those that a page shows, and its charts.
-fn connection(json: &mut Json<'_>, one: &Connection<'_>, shown: Option<&[usize]>, files: &Files) -> io::Result<()> {
-    let said = one.said;
+fn connection(
+    json: &mut Json<'_>,
+    one: &SummedConnection<'_>,
+    shown: Option<&[usize]>,
+    answer: &Answer,
+) -> io::Result<()> {
+    let (said, files) = (one.said, &answer.files);
     json.open(b'{');
     of_connection(json, said, files);
     json.name("faults").open(b'[');
@@ -129,10 +142,11 @@ fn connection(json: &mut Json<'_>, one: &Connection<'_>, shown: Option<&[usize]>
     json.close(b']');
     json.name("requests").open(b'[');
     let all = 0..if shown.is_some() { 0 } else { said.requests.len() };
-    for at in all.chain(shown.into_iter().flatten().copied()) {
-        if let Some(found) = said.requests.get(at) {
-            json.object(|json| request(json, &found, &one.phrases, files));
-        }
+    for (at, found) in said.requests.at(all.chain(shown.into_iter().flatten().copied())) {
+        json.object(|json| {
+            request(json, &found, &one.phrases, files);
+            legs::request(json.name("legs"), &found, (one.place, at), answer);
+        });
         json.give()?;
     }
     json.close(b']');
@@ -146,8 +160,9 @@ fn connection(json: &mut Json<'_>, one: &Connection<'_>, shown: Option<&[usize]>
         });
     });
     json.name("uncaptured").object(|json| {
-        for (side, one) in SIDES.iter().zip(&said.uncaptured) {
-            json.name(side.name()).number(one.bytes);
+        for side in SIDES {
+            let found = said.uncaptured.iter().find(|one| one.0 == side);
+            json.name(side.name()).number(found.map_or(0, |one| one.1.bytes));
         }
     });
     json.name("notes").list(&said.notes, |json, note| json.text(note));
@@ -284,7 +299,7 @@ fn request(json: &mut Json<'_>, one: &Request, phrases: &Phrases<'_>, files: &Fi
     json.name("end_unseen").truth(one.is_end_unseen);
     json.name("opened_before").truth(one.was_open);
     cause(json.name("cause"), one, phrases, files);
-    json.name("needed_window").some_number(phrases.needed_window(one));
+    json.name("needed_window").some_number(one.cause.needed);
     json.name("life").some(life_of(one).as_deref(), |json, life| json.text(life));
 }
 
@@ -292,17 +307,26 @@ fn direction(json: &mut Json<'_>, one: &Direction, opened: Nanos, files: &Files)
     json.object(|json| {
         json.name("nanos").number(one.nanos);
         json.name("content").number(one.content);
-        json.name("shares").object(|json| {
-            for (share, nanos) in Share::ALL.iter().zip(one.shares) {
-                json.name(share.name()).number(nanos);
-            }
-        });
+        json.name("shares").object(|json| shares(json, &one.shares));
         json.name("stalls").number(one.stalls);
         place(json.name("first"), one.first, files);
         place(json.name("end"), one.end, files);
         json.name("spans")
             .some(one.spans.as_ref(), |json, spans| json.list(spans, |json, one| span(json, one, opened)));
     });
+}
+
+/// One after the other, so that each name is known to the compiler.
+fn shares(json: &mut Json<'_>, all: &Shares) {
+    let [waiting, sending, stream_stall, connection_stall, tcp, others, idle, unseen] = *all;
+    json.name(Share::Waiting.name()).number(waiting);
+    json.name(Share::Sending.name()).number(sending);
+    json.name(Share::StreamStall.name()).number(stream_stall);
+    json.name(Share::ConnectionStall.name()).number(connection_stall);
+    json.name(Share::Tcp.name()).number(tcp);
+    json.name(Share::Others.name()).number(others);
+    json.name(Share::Idle.name()).number(idle);
+    json.name(Share::Unseen.name()).number(unseen);
 }
 
 fn span(json: &mut Json<'_>, one: &Span, opened: Nanos) {
@@ -328,92 +352,4 @@ pub fn cause(json: &mut Json<'_>, of: &Request, phrases: &Phrases<'_>, files: &F
         json.name("proved").truth(one.is_proved);
         json.name("grade").some_word(one.sure.map(Sure::name));
     });
-}
-
-/// The side that had to wait, or sent nothing, where one is named.
-pub fn cause_side(one: &Cause) -> Option<&'static str> {
-    match one.kind {
-        CauseKind::None | CauseKind::Unseen => None,
-        _ => Some(one.side.name()),
-    }
-}
-
-pub fn kind_name(kind: CauseKind) -> &'static str {
-    match kind {
-        CauseKind::None => "none",
-        CauseKind::StreamWindow => "stream-window",
-        CauseKind::ConnectionWindow => "connection-window",
-        CauseKind::Tcp => "tcp",
-        CauseKind::Application => "application",
-        CauseKind::Path => "path",
-        CauseKind::Unseen => "unseen",
-    }
-}
-
-pub fn why_name(why: CauseWhy) -> Option<&'static str> {
-    match why {
-        CauseWhy::None => None,
-        CauseWhy::Stalls(why) => Some(stall_name(why)),
-        CauseWhy::Unshown => Some("unshown"),
-        CauseWhy::ZeroWindow => Some("zero-window"),
-        CauseWhy::Resent => Some("resent"),
-        CauseWhy::Hole => Some("hole"),
-        CauseWhy::Nagle => Some("nagle"),
-        CauseWhy::WithinFrame => Some("within-frame"),
-        CauseWhy::Between => Some("between"),
-        CauseWhy::Before => Some("before"),
-    }
-}
-
-fn stall_name(why: StallWhy) -> &'static str {
-    match why {
-        StallWhy::GrantedNothing => "granted-nothing",
-        StallWhy::GrantedLate => "granted-late",
-        StallWhy::GrantLost => "grant-lost",
-        StallWhy::RoundTrip => "round-trip",
-        StallWhy::CancelledStreams => "cancelled-streams",
-        StallWhy::NotNeeded => "not-needed",
-    }
-}
-
-fn stall_end_name(end: StallEnd) -> &'static str {
-    match end {
-        StallEnd::Grant => "grant",
-        StallEnd::Settings => "settings",
-        StallEnd::Reset => "reset",
-        StallEnd::EndOfStream => "end-of-stream",
-    }
-}
-
-pub fn signal_word(one: &Signal) -> &'static str {
-    if one.is_goaway {
-        "GOAWAY"
-    } else {
-        "RST_STREAM"
-    }
-}
-
-pub fn certainty_name(certainty: Certainty) -> &'static str {
-    match certainty {
-        Certainty::Certain => "certain",
-        Certainty::Settings => "settings",
-        Certainty::Gap => "gap",
-        Certainty::Clock => "clock",
-        Certainty::Joined => "joined",
-    }
-}
-
-fn place_name(place: Place) -> &'static str {
-    match place {
-        Place::AtClient => "client",
-        Place::AtServer => "server",
-        Place::Between => "between",
-    }
-}
-
-fn source_name(source: Source) -> &'static str {
-    match source {
-        Source::Tcp => "tcp",
-        Source::Http2 => "http2",
-    }
 }

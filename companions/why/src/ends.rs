@@ -6,7 +6,7 @@ use explain::answer::{At, ConnectionSaid, Files, Nanos, Place};
 use explain::frames::{Frame, Frames};
 use reports::Side;
 
-use crate::summing::{Connection, Whole};
+use crate::summing::{SummedConnection, Whole};
 use crate::wording::{count, list_of, SIDES};
 
 /// So far may the quickest packets of a pair that was captured at one place seem to go back.
@@ -24,7 +24,7 @@ pub enum Apart {
 
 /// A connection as the capture of one end has it; times are those of the client's clock.
 pub struct End<'a> {
-    pub connection: &'a Connection<'a>,
+    pub connection: &'a SummedConnection<'a>,
     pub files: &'a Files,
     pub frames: &'a Frames,
     /// By sides, the frames' numbers; the times at which they had come, where those that go back count as the latest
@@ -64,7 +64,7 @@ pub struct Joined<'a> {
 }
 
 impl<'a> End<'a> {
-    fn new(connection: &'a Connection<'a>, frames: &'a Frames, files: &'a Files) -> End<'a> {
+    fn new(connection: &'a SummedConnection<'a>, frames: &'a Frames, files: &'a Files) -> End<'a> {
         let mut end = End {
             connection,
             files,
@@ -189,7 +189,7 @@ impl<'a> Joined<'a> {
 
 fn ends_of<'a>(whole: &'a Whole<'a>) -> Vec<End<'a>> {
     let files = &whole.answer.files;
-    whole.audited().filter_map(|one| Some(End::new(one, one.said.all_frames.as_ref()?, files))).collect()
+    whole.audited().filter_map(|one| Some(End::new(one, one.said.all_frames.as_deref()?, files))).collect()
 }
 
 fn why_none(all: &[Vec<&ConnectionSaid>; 2]) -> String {

@@ -3,7 +3,7 @@
 use std::collections::{HashMap, HashSet};
 
 use explain::answer::{At, FaultSaid, Nanos, StallSaid};
-use reports::{grouped, Side};
+use reports::Side;
 
 use crate::ends::{Both, End, FramePlace};
 use crate::wording::{count, time_of, SIDES};
@@ -235,8 +235,7 @@ impl<'a> Looking<'a, '_> {
         match self.granted_behind(begin) {
             0 => (Verdict::GrantedNothing, format!("the {peer} had the bytes, and granted nothing")),
             sent => {
-                let bytes = grouped(sent);
-                let why = format!("the {peer} granted {bytes} bytes past it");
+                let why = format!("the {peer} granted {} past it", count(sent, "byte"));
                 (Verdict::GrantLost, format!("{why}, and no such grant is in the {sender}'s capture"))
             }
         }

@@ -6,14 +6,14 @@ use explain::answer::{ConnectionSaid, FaultSaid};
 use reports::{grouped, sentence_of};
 
 /// A fault, and how often the stream has it, where it can be doubted.
-pub struct Told<'a> {
+pub struct ToldFault<'a> {
     pub fault: &'a FaultSaid,
     pub times: u64,
 }
 
 /// The faults of a connection, each with the first of its like.
-pub fn told(said: &ConnectionSaid) -> Vec<Told<'_>> {
-    let mut told: Vec<Told<'_>> = Vec::new();
+pub fn told(said: &ConnectionSaid) -> Vec<ToldFault<'_>> {
+    let mut told: Vec<ToldFault<'_>> = Vec::new();
     let mut places = HashMap::<_, usize>::new();
     for fault in &said.faults {
         let finding = &fault.finding;
@@ -22,14 +22,14 @@ pub fn told(said: &ConnectionSaid) -> Vec<Told<'_>> {
             Some(place) if fault.is_doubtful() => told[*place].times += 1,
             _ => {
                 places.insert(of, told.len());
-                told.push(Told { fault, times: 1 });
+                told.push(ToldFault { fault, times: 1 });
             }
         }
     }
     told
 }
 
-impl Told<'_> {
+impl ToldFault<'_> {
     /// What happened, and in which packet, or in which first.
     pub fn sentence(&self, packet: &str) -> String {
         let (finding, frame) = (&self.fault.finding, self.fault.at.frame);

@@ -1,12 +1,13 @@
 //! What fails a run in CI: the reasons that a command line may name, and what holds of each in an answer.
 
-use explain::answer::{is_pushed, At, CauseKind, Certainty, ConnectionSaid, Files, How, Nanos, Request, Share};
+use explain::answer::{is_pushed, Answer, At, CauseKind, Certainty, ConnectionSaid, Files, How, Nanos, Request};
 use explain::words::reason_words;
 use reports::{grouped, Side};
 
 use crate::document::signal_word;
 use crate::faults::told;
-use crate::summing::{is_held, Connection, Whole};
+use crate::legs_said::request_words;
+use crate::summing::{is_held, SummedConnection, Whole};
 use crate::wording::{code_name, escaped, grpc_name, time_of};
 
 /// Why a run fails.
@@ -25,6 +26,10 @@ pub enum Reason {
     Gap,
     Cut,
     NotAudited,
+    /// A request stood behind another one at a proxy.
+    Behind,
+    /// A proxy passed on that a client or an upstream did not read.
+    PassedOn,
     /// Windows held a request back for as long as an option of its own says.
     LongStall,
     /// A request lived for as long as an option of its own says.
@@ -35,7 +40,7 @@ pub enum Reason {
 
 impl Reason {
     /// Those that `--fail-on` takes.
-    pub const NAMED: [Reason; 12] = [
+    pub const NAMED: [Reason; 14] = [
         Reason::Fault,
         Reason::CertainFault,
         Reason::JoinedFault,
@@ -48,7 +53,14 @@ impl Reason {
         Reason::Gap,
         Reason::Cut,
         Reason::NotAudited,
+        Reason::Behind,
+        Reason::PassedOn,
     ];
+
+    /// Whether it is about both legs of a proxy.
+    pub fn is_of_legs(self) -> bool {
+        matches!(self, Reason::Behind | Reason::PassedOn)
+    }
 
     pub fn name(self) -> &'static str {
         match self {
@@ -64,6 +76,8 @@ impl Reason {
             Reason::Gap => "gap",
             Reason::Cut => "cut",
             Reason::NotAudited => "not-audited",
+            Reason::Behind => "behind",
+            Reason::PassedOn => "passed-on",
             Reason::LongStall => "fail-stall",
             Reason::LongLife => "fail-life",
             Reason::NoHttp2 => "require-http2",
@@ -71,8 +85,17 @@ impl Reason {
     }
 }
 
-const OF_REQUESTS: [Reason; 7] =
-    [Reason::Hung, Reason::Stall, Reason::Tcp, Reason::Unanswered, Reason::Status, Reason::LongStall, Reason::LongLife];
+const OF_REQUESTS: [Reason; 9] = [
+    Reason::Hung,
+    Reason::Stall,
+    Reason::Tcp,
+    Reason::Unanswered,
+    Reason::Status,
+    Reason::Behind,
+    Reason::PassedOn,
+    Reason::LongStall,
+    Reason::LongLife,
+];
 /// From here on a status is no informational one, and a failure of the server (RFC 9110, 15).
 const FIRST_FINAL: u32 = 200;
 const SERVER_ERROR: u32 = 500;
@@ -114,12 +137,15 @@ impl Gates {
 
 /// All that fails the run: the capture's first, then by connections.
 pub fn failures_of(whole: &Whole<'_>, gates: &Gates) -> Vec<Failure> {
-    let mut finding = Finding { gates, files: &whole.answer.files, found: Vec::new() };
+    let mut finding = Finding { gates, answer: whole.answer, files: &whole.answer.files, found: Vec::new() };
     finding.of_capture(whole);
     for one in &whole.connections {
         finding.of_connection(one.said);
         if gates.wants_requests() {
-            one.said.requests.iter().for_each(|request| finding.of_request(one, &request));
+            for (place, request) in one.said.requests.iter().enumerate() {
+                finding.of_request(one, &request);
+                finding.of_legs(one, place, &request);
+            }
         }
     }
     finding.found
@@ -127,6 +153,7 @@ pub fn failures_of(whole: &Whole<'_>, gates: &Gates) -> Vec<Failure> {
 
 struct Finding<'a> {
     gates: &'a Gates,
+    answer: &'a Answer,
     files: &'a Files,
     found: Vec<Failure>,
 }
@@ -211,7 +238,22 @@ impl Finding<'_> {
         }
     }
 
-    fn of_request(&mut self, one: &Connection<'_>, request: &Request) {
+    /// Whether it stood behind another one at a proxy, and whether that passed on what held it back.
+    fn of_legs(&mut self, one: &SummedConnection<'_>, at: usize, request: &Request) {
+        let (place, of) = ((one.said.number, Some(request.stream)), (one.place, at));
+        let legs = match self.answer.legs.of(of.0, of.1) {
+            Some(legs) => legs,
+            None => return,
+        };
+        let text = || format!("{}: {}", name_of(request), request_words(request, legs, of, self.answer).join("; "));
+        let (is_behind, is_passed_on) = (legs.is_behind(), legs.is_passed_on());
+        let said = [(Reason::Behind, is_behind), (Reason::PassedOn, is_passed_on)];
+        let wanted: Vec<_> = said.into_iter().filter(|one| one.1 && self.gates.is_wanted(one.0)).collect();
+        let texts: Vec<String> = wanted.iter().map(|_| text()).collect();
+        wanted.into_iter().zip(texts).for_each(|((reason, _), text)| self.add(reason, place, || text));
+    }
+
+    fn of_request(&mut self, one: &SummedConnection<'_>, request: &Request) {
         let place = (one.said.number, Some(request.stream));
         let text = || format!("{}: {}", name_of(request), one.phrases.of(request));
         if request.is_hung {
@@ -224,7 +266,7 @@ impl Finding<'_> {
             self.add(Reason::Tcp, place, text);
         }
         self.of_answer(place, request);
-        let nanos = stalled(request);
+        let nanos = request.stalled();
         if let Some(longest) = self.gates.stall.filter(|longest| nanos > 0 && nanos >= *longest) {
             let (name, longest) = (name_of(request), time_of(longest));
             let text = || format!("{name}: stalled for {}: {longest} fail", time_of(nanos));
@@ -256,22 +298,10 @@ pub fn not_audited_words(one: &ConnectionSaid) -> String {
     format!("not audited ({why}): {}", reason_words(why, "a connection"))
 }
 
-pub fn name_of(request: &Request) -> String {
+fn name_of(request: &Request) -> String {
     match request.name.as_deref() {
         None | Some("") => format!("stream {}", request.stream),
         Some(name) => format!("stream {} {}", request.stream, escaped(name)),
-    }
-}
-
-/// For how long windows held a request back: by the stalls of one direction, or by those that do not show.
-pub fn stalled(request: &Request) -> Nanos {
-    let windows = [Share::StreamStall, Share::ConnectionStall];
-    let by_sides = request.sides.iter().map(|said| windows.map(|share| said.shares[share as usize]).iter().sum());
-    let shown: Nanos = by_sides.max().unwrap_or(0);
-    if is_held(request) {
-        shown.max(request.cause.nanos)
-    } else {
-        shown
     }
 }
 

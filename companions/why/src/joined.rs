@@ -4,8 +4,8 @@
 use std::fmt::Write;
 
 use explain::answer::{
-    assumed_of, Answer, Assumed, Cause, CauseKind, ConnectionSaid, Doubtful, Grade, Inferred, JoinedHow, JoinedSaid,
-    Nanos, Request, Sure, Told, What,
+    assumed_of, Answer, Assumed, Behind, Cause, CauseKind, ConnectionSaid, Doubtful, Grade, Inferred, JoinedHow,
+    JoinedSaid, Request, SideEvidence, Sure, What,
 };
 use reports::grouped;
 
@@ -14,7 +14,7 @@ use crate::wording::{count, time_of, SIDES};
 
 /// So many windows of a connection are named that were not seen to be used up.
 const MOST_WINDOWS: usize = 3;
-const PROVED: &str = "Of a connection that began before the capture, h2audit's report is proved of the capture that was \
+const PROVED: &str = "Of a connection that was joined, h2audit's report is proved of the capture that was \
                       made: its packets as they stand, behind a beginning that was made up. Frames, and the faults that \
                       are said to be certain, rest on packets alone; stalls that are marked rest on windows that are \
                       inferred. Overruns cannot be seen there.";
@@ -29,16 +29,17 @@ fn lost(how: &JoinedHow) -> Option<(&'static str, &'static str)> {
     }
 }
 
-fn sides_words(told: Told) -> &'static str {
+fn sides_words(told: SideEvidence) -> &'static str {
     match told {
-        Told::Secret => "by the secrets of TLS",
-        Told::Fields => "by the fields of requests and answers",
-        Told::Promise => "by a promise",
-        Told::EnablePush => "by ENABLE_PUSH",
-        Told::Priority => "by PRIORITY",
-        Told::GoAway => "by the last stream of a GOAWAY",
-        Told::Ports => "by their ports alone",
-        Told::Content => "by nothing but who sends more",
+        SideEvidence::Before => "as before the gap",
+        SideEvidence::Secret => "by the secrets of TLS",
+        SideEvidence::Fields => "by the fields of requests and answers",
+        SideEvidence::Promise => "by a promise",
+        SideEvidence::EnablePush => "by ENABLE_PUSH",
+        SideEvidence::Priority => "by PRIORITY",
+        SideEvidence::GoAway => "by the last stream of a GOAWAY",
+        SideEvidence::Ports => "by their ports alone",
+        SideEvidence::Content => "by nothing but who sends more",
     }
 }
 
@@ -49,7 +50,7 @@ pub fn lines_of(said: &ConnectionSaid, is_all: bool) -> Vec<String> {
         None => return Vec::new(),
     };
     let mut lines = match joined.inferred() {
-        Some(inferred) => vec![inferred_line(inferred)],
+        Some(inferred) => vec![inferred_line(said.number, inferred, joined.behind)],
         None => {
             let what = lost(&joined.how).map_or("", |lost| lost.1);
             vec![format!("began before the capture: its {what} was not captured, and nothing is inferred")]
@@ -59,15 +60,38 @@ pub fn lines_of(said: &ConnectionSaid, is_all: bool) -> Vec<String> {
     lines
 }
 
-fn inferred_line(inferred: &Inferred) -> String {
+/// What goes on behind a gap is named by the connection that has it.
+pub fn name_of(said: &ConnectionSaid) -> String {
+    match said.joined.as_ref().map(|joined| joined.behind) {
+        Some(Behind::Gap { connection, turn: 1 }) => format!("{connection}, joined after the gap"),
+        Some(Behind::Gap { connection, turn }) => format!("{connection}, joined after gap {turn}"),
+        _ => said.number.to_string(),
+    }
+}
+
+/// Before what a stream had been opened that was open at the beginning.
+pub fn before_what(said: &ConnectionSaid) -> &'static str {
+    match said.joined.as_ref().map(|joined| joined.behind) {
+        Some(Behind::Gap { .. } | Behind::First) => "before the gap",
+        Some(Behind::No) | None => "before the capture",
+    }
+}
+
+fn inferred_line(number: u64, inferred: &Inferred, behind: Behind) -> String {
+    let gap = if behind == Behind::No { "" } else { " behind the gap" };
     let borders = SIDES.iter().zip(&inferred.borders).map(|(side, border)| match border {
-        Some(border) if border.at == 0 => format!("from the first byte of the {side}'s on"),
-        Some(border) => format!("from byte {} of the {side}'s on", grouped(border.at + 1)),
+        Some(border) if border.at == 0 => format!("from the first byte{gap} of the {side}'s on"),
+        Some(border) => format!("from byte {}{gap} of the {side}'s on", grouped(border.at + 1)),
         None => format!("of the {side} none"),
     });
     let borders: Vec<String> = borders.collect();
+    let began = match behind {
+        Behind::No => "began before the capture".to_string(),
+        Behind::First => "began before the capture, and was joined behind bytes that are missing".to_string(),
+        Behind::Gap { .. } => format!("connection {number} of all: bytes before it are missing"),
+    };
     let mut text = format!(
-        "began before the capture: client and server are told {}; frames are read {}; ",
+        "{began}: client and server are told {}; frames are read {}; ",
         sides_words(inferred.sides),
         borders.join(", ")
     );
@@ -89,14 +113,15 @@ fn bound_lines(joined: &JoinedSaid, is_all: bool) -> Vec<String> {
     let most = if is_all { bounds.len() } else { bounds.len().min(MOST_WINDOWS) };
     let mut lines: Vec<String> = bounds[..most].iter().map(|(one, doubtful)| bound_line(one, *doubtful)).collect();
     if bounds.len() > most {
-        let more = count((bounds.len() - most) as u64, "window");
-        lines.push(format!("{more} more were not seen to be used up: --all"));
+        let left = bounds.len() - most;
+        let (more, were) = (count(left as u64, "window"), if left == 1 { "was" } else { "were" });
+        lines.push(format!("{more} more {were} not seen to be used up: --all"));
     }
     lines
 }
 
 fn bound_line(one: &Assumed, doubtful: Doubtful) -> String {
-    let (side, least) = (SIDES[one.side], grouped(one.least.max(0)));
+    let (side, least) = (SIDES[one.side], count(one.least.max(0), "byte"));
     let window = match one.what {
         What::Connection => "the connection's window".to_string(),
         What::Initial => "streams that opened since".to_string(),
@@ -104,9 +129,9 @@ fn bound_line(one: &Assumed, doubtful: Doubtful) -> String {
     };
     match doubtful.is_some() {
         true => format!(
-            "no stall of the {side} can be told on {window}: it was not seen to use up its credit, of {least} bytes or more"
+            "no stall of the {side} can be told on {window}: it was not seen to use up its credit, of {least} or more"
         ),
-        false => format!("no stall of the {side} on {window}: {least} bytes or more were all that it needed"),
+        false => format!("no stall of the {side} on {window}: {least} or more were all that it needed"),
     }
 }
 
@@ -117,38 +142,23 @@ pub fn mark(said: &ConnectionSaid, request: &Request) -> Option<String> {
     let stream = if cause.kind == CauseKind::ConnectionWindow { 0 } else { request.stream };
     let assumed = assumed_of(inferred, cause.side as usize, stream);
     match (cause.sure?, assumed) {
-        (Sure::Strong, Some(one)) => Some(format!(" [inferred: {}]", evidence_words(one, cause))),
-        (Sure::Likely, Some(one)) => Some(format!(" [likely: {}]", evidence_words(one, cause))),
+        (Sure::Strong, Some(one)) => Some(format!(" [inferred: {}]", evidence_words(one, cause, said))),
+        (Sure::Likely, Some(one)) => Some(format!(" [likely: {}]", evidence_words(one, cause, said))),
         (Sure::Either, Some(one)) => Some(format!(" [likely, {}]", either_words(one))),
         _ => None,
     }
 }
 
-/// Whether a request may have been stalled by a window of which that is not known.
-pub fn may_be_stalled(said: &ConnectionSaid, request: &Request) -> bool {
-    let joined = match &said.joined {
-        Some(joined) => joined,
-        None => return false,
-    };
-    let is_its = |what: What| match what {
-        What::Connection => true,
-        What::Initial => !request.was_open,
-        What::Stream(stream) => stream == request.stream,
-    };
-    let windows = joined.windows.iter().filter(|one| is_its(one.0.what) && request.sides[one.0.side].content > 0);
-    let is_within = |one: (Nanos, Nanos)| one.0 < request.until && one.1 > request.opened.time;
-    windows.map(|one| one.1.map_or(one.0.grade == Grade::Broken, is_within)).any(|may_be| may_be)
-}
-
 /// Why a window is taken to have been used up.
-fn evidence_words(one: &Assumed, cause: &Cause) -> String {
+fn evidence_words(one: &Assumed, cause: &Cause, said: &ConnectionSaid) -> String {
+    let since = if before_what(said) == "before the gap" { "the gap" } else { "the capture began" };
     let side = cause.side;
     let at = match one.what {
         What::Initial => "at the same byte of its streams",
         What::Connection | What::Stream(_) => "at the same byte",
     };
     match one.touches {
-        0 => format!("the {side} was silent since the capture began, and went on at once after a grant"),
+        0 => format!("the {side} was silent since {since}, and went on at once after a grant"),
         1 => format!("the {side} stopped for {}, and went on only after a grant", time_of(one.pause)),
         times => format!("the {side} stopped {} times {at}, and went on only after a grant", grouped(u64::from(times))),
     }
@@ -175,6 +185,8 @@ pub fn write(json: &mut Json<'_>, said: &ConnectionSaid) {
     json.some(said.joined.as_deref(), |json, joined| {
         json.object(|json| {
             json.name("exact").some_word(lost(&joined.how).map(|lost| lost.0));
+            json.name("after_gap").truth(joined.behind != Behind::No);
+            json.name("after_gap_of").some_number(joined.behind.connection());
             let inferred = joined.inferred();
             json.name("sides").some_word(inferred.map(|inferred| inferred.sides.word()));
             for (at, side) in SIDES.iter().enumerate() {

@@ -1,15 +1,21 @@
 //! The answer as a JUnit file, as Jenkins, GitLab and others read it: a suite for each connection, a test for each
 //! request, and one for the connection itself. Of two ends each capture has its suites.
+//!
+//! Who reads such files follows a test by its name from run to run. So names have nothing that changes with each: no
+//! port of a client, number of a stream or folder, but the server, the request, and whose turn it is.
 
 use std::collections::HashMap;
 use std::fmt::Write as _;
+use std::hash::Hash;
 use std::io::{self, Write};
+use std::path::Path;
+use std::rc::Rc;
 
 use explain::answer::Nanos;
 
-use crate::gates::{name_of, not_audited_words, Failure, Place};
+use crate::gates::{not_audited_words, Failure, Place};
 use crate::joined::lines_of;
-use crate::summing::{Connection, Whole};
+use crate::summing::{SummedConnection, Whole};
 use crate::wording::escaped;
 
 const INDENT: &str = "      ";
@@ -74,12 +80,36 @@ fn by_place<'a>(judged: &'a Judged<'_>) -> ByPlace<'a> {
 struct Suite<'a> {
     judged: &'a Judged<'a>,
     failed: &'a ByPlace<'a>,
-    connection: Option<&'a Connection<'a>>,
+    /// With its turn among those to its server.
+    connection: Option<(&'a SummedConnection<'a>, usize)>,
 }
 
 fn suites_of<'a>(judged: &'a Judged<'a>, failed: &'a ByPlace<'a>) -> impl Iterator<Item = Suite<'a>> {
-    let connections = judged.whole.connections.iter().map(Some);
+    let mut turns = Turns::default();
+    let connections = judged.whole.connections.iter().map(move |one| Some((one, turns.next(&one.said.server))));
     std::iter::once(None).chain(connections).map(move |connection| Suite { judged, failed, connection })
+}
+
+/// How often each name came.
+#[derive(Default)]
+struct Turns<K>(HashMap<K, usize>);
+
+impl<K: Clone + Eq + Hash> Turns<K> {
+    /// How often this one came, with this time.
+    fn next(&mut self, name: &K) -> usize {
+        let turn = self.0.entry(name.clone()).or_default();
+        *turn += 1;
+        *turn
+    }
+}
+
+/// The request, and which one of its name it is.
+fn name_of(name: Option<&str>, turn: usize) -> String {
+    let name = name.filter(|name| !name.is_empty()).unwrap_or("request");
+    match turn {
+        1 => name.to_string(),
+        _ => format!("{name} ({turn})"),
+    }
 }
 
 impl<'a> Suite<'a> {
@@ -87,12 +117,14 @@ impl<'a> Suite<'a> {
         let name = self.name();
         ascii(&format!("  <testsuite{}>\n", attributes(&name, self.counts(), self.nanos())), to)?;
         self.own_case().write(&name, to)?;
-        if let Some(one) = self.connection {
+        if let Some((one, _)) = self.connection {
+            let mut turns: Turns<Option<Rc<str>>> = Turns::default();
             for request in one.said.requests.iter() {
                 let place = (one.said.number, Some(request.stream));
-                let said = self.lines(std::iter::once(one.phrases.of(&request)), place);
+                let which = format!("{}, stream {}", ends_of(one), request.stream);
+                let said = self.lines([which, one.phrases.of(&request)].into_iter(), place);
                 let case = Case {
-                    name: name_of(&request),
+                    name: name_of(request.name.as_deref(), turns.next(&request.name)),
                     nanos: request.nanos(),
                     said,
                     skipped: None,
@@ -107,24 +139,26 @@ impl<'a> Suite<'a> {
     fn name(&self) -> String {
         let whose = self.judged.whose;
         match self.connection {
-            None => format!("{whose}{}", self.judged.whole.answer.files.names.join(", ")),
-            Some(one) => {
-                format!("{whose}connection {} {} -> {}", one.said.number, one.said.client, one.said.server)
+            None => {
+                let names = self.judged.whole.answer.files.names.iter();
+                let names: Vec<_> = names.map(|name| without_folder(name)).collect();
+                format!("{whose}{}", names.join(", "))
             }
+            Some((one, turn)) => format!("{whose}{}, connection {turn}", one.said.server),
         }
     }
 
     fn nanos(&self) -> Nanos {
         match self.connection {
             None => self.judged.whole.summary.nanos,
-            Some(one) => (one.said.until - one.said.begin).max(0),
+            Some((one, _)) => (one.said.until - one.said.begin).max(0),
         }
     }
 
     fn counts(&self) -> Counts {
         let own = self.own_case();
-        let requests = self.connection.map_or(0, |one| one.said.requests.len());
-        let number = self.connection.map_or(0, |one| one.said.number);
+        let requests = self.connection.map_or(0, |(one, _)| one.said.requests.len());
+        let number = self.connection.map_or(0, |(one, _)| one.said.number);
         Counts {
             tests: 1 + requests,
             failures: self.failed.places.get(&number).copied().unwrap_or(0),
@@ -148,13 +182,13 @@ impl<'a> Suite<'a> {
                     failures: self.failures((0, None)),
                 }
             }
-            Some(one) => {
+            Some((one, _)) => {
                 let place = (one.said.number, None);
+                let said = std::iter::once(ends_of(one)).chain(lines_of(one.said, false));
                 Case {
                     name: "connection".to_string(),
                     nanos: self.nanos(),
-                    said: self
-                        .lines(lines_of(one.said, false).into_iter().chain(one.said.notes.iter().cloned()), place),
+                    said: self.lines(said.chain(one.said.notes.iter().cloned()), place),
                     skipped: (!one.said.is_audited()).then(|| not_audited_words(one.said)),
                     failures: self.failures(place),
                 }
@@ -171,6 +205,15 @@ impl<'a> Suite<'a> {
         let of_both = self.judged.said.get(&place).into_iter().flatten().cloned();
         said.chain(of_both).collect::<Vec<_>>().join("\n")
     }
+}
+
+/// Which connection it is, as the text has it.
+fn ends_of(one: &SummedConnection<'_>) -> String {
+    format!("connection {}  {} -> {}", one.said.number, one.said.client, one.said.server)
+}
+
+fn without_folder(name: &str) -> &str {
+    Path::new(name).file_name().and_then(|last| last.to_str()).unwrap_or(name)
 }
 
 impl Case<'_> {
@@ -248,7 +291,16 @@ fn ascii(text: &str, to: &mut dyn Write) -> io::Result<()> {
 
 #[cfg(test)]
 mod tests {
-    use super::{ascii, plain, quoted, seconds};
+    use super::{ascii, name_of, plain, quoted, seconds, without_folder, Turns};
+
+    #[test]
+    fn names_have_nothing_of_a_run() {
+        let mut turns = Turns::default();
+        let names = ["GET /a", "GET /b", "GET /a"].map(|name| name_of(Some(name), turns.next(&name)));
+        assert_eq!(names, ["GET /a", "GET /b", "GET /a (2)"]);
+        assert_eq!((name_of(None, 1), name_of(Some(""), 3)), ("request".to_string(), "request (3)".to_string()));
+        assert_eq!((without_folder("/tmp/x/a.pcap"), without_folder("-")), ("a.pcap", "-"));
+    }
 
     #[test]
     fn what_xml_cannot_hold_is_escaped() {

@@ -14,7 +14,11 @@ mod ends_stalls;
 mod faults;
 mod gates;
 mod joined;
+mod joined_rows;
 mod junit;
+mod legs;
+mod legs_rows;
+mod legs_said;
 mod life;
 mod page;
 mod phrases;
@@ -22,15 +26,19 @@ mod rows;
 mod rules;
 mod summing;
 mod text;
+mod trace;
+mod trace_legs;
 mod wording;
 
-pub use charts::write_report;
+pub use charts::{notes_of, write_report};
 pub use ends_said::by_place;
 pub use gates::{failures_of, lines_of, Failure, Gates, Place, Reason};
 pub use junit::{write as write_junit, Judged};
 pub use page::Look;
 pub use phrases::Phrases;
-pub use summing::{Connection, Summary, Tally, Verdict, Whole};
+pub use summing::{Summary, SummedConnection, Tally, Verdict, Whole};
+pub use text::name_of;
+pub use trace::write as write_trace;
 
 use std::io::{self, Write};
 
@@ -59,7 +67,7 @@ pub fn write(whole: &Whole<'_>, form: Form, to: &mut dyn Write) -> io::Result<()
         Form::Text(look) => text::write(whole, look, to),
         Form::Document => document::write(whole, None, to),
         Form::Charts => {
-            let shown = Shown::of(whole.connections.iter().map(|one| one.said));
+            let shown = Shown::of(whole.connections.iter().map(|one| one.said), &whole.answer.legs);
             document::write(whole, Some(&shown), to)
         }
         Form::Lines => document::write_lines(whole, to),

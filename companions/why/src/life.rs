@@ -3,10 +3,13 @@
 use explain::answer::{CauseKind, How, Nanos, Request, Share};
 use reports::Side;
 
-use crate::wording::{percent, time_of, SIDES};
+use crate::wording::{put_percent, put_time, SIDES};
 
 /// Parts below a twentieth of a life are not told.
 const LEAST_PART: i128 = 20;
+const MOST_PARTS: usize = 14;
+/// So many bytes most lives take.
+const USUAL: usize = 128;
 
 /// A part of a life.
 struct Part {
@@ -33,20 +36,27 @@ pub fn life_of(request: &Request) -> Option<String> {
     if matches!(request.cause.kind, CauseKind::None | CauseKind::Unseen) {
         return None;
     }
-    let mut parts: Vec<Part> = SIDES.iter().flat_map(|side| parts_of(request, *side)).collect();
-    parts.retain(|one| one.nanos > 0 && i128::from(one.nanos) * LEAST_PART >= i128::from(life));
+    let mut parts: Vec<Part> = Vec::with_capacity(MOST_PARTS);
+    let counts = |one: &Part| one.nanos > 0 && i128::from(one.nanos) * LEAST_PART >= i128::from(life);
+    SIDES.iter().for_each(|side| parts.extend(parts_of(request, *side).into_iter().filter(counts)));
     if parts.len() < 2 {
         return None;
     }
     parts.sort_by_key(|one| std::cmp::Reverse(one.nanos));
-    let mut before = None;
-    let told = parts.iter().map(|one| {
-        let text = words_of(one, before);
-        before = one.side;
-        format!("{text} {} ({})", time_of(one.nanos), percent(one.nanos, life))
-    });
-    let told: Vec<String> = told.collect();
-    Some(format!("{}: {}", time_of(life), told.join(", ")))
+    let mut text = String::with_capacity(USUAL);
+    put_time(&mut text, life);
+    let (mut between, mut before) = (": ", None);
+    for one in &parts {
+        text.push_str(between);
+        put_words(&mut text, one, before);
+        text.push(' ');
+        put_time(&mut text, one.nanos);
+        text.push_str(" (");
+        put_percent(&mut text, one.nanos, life);
+        text.push(')');
+        (between, before) = (", ", one.side);
+    }
+    Some(text)
 }
 
 fn parts_of(request: &Request, side: Side) -> [Part; 7] {
@@ -57,10 +67,9 @@ fn parts_of(request: &Request, side: Side) -> [Part; 7] {
     let (other, ended) = (&request.sides[side.other() as usize], &request.ended);
     let waits_for_end = said.first.is_none() && ended.how != How::EndStream && other.end == ended.at;
     let took = if waits_for_end { 0 } else { said.waited };
-    let stalled = share(Share::StreamStall) + share(Share::ConnectionStall);
     [
         part(took, Some(side), What::Took),
-        part(stalled, Some(side.other()), What::Window),
+        part(said.stalled(), Some(side.other()), What::Window),
         part(share(Share::Tcp), None, What::Tcp),
         part(share(Share::Sending), Some(side), What::Sent),
         part(share(Share::Others), Some(side), What::Others),
@@ -69,18 +78,24 @@ fn parts_of(request: &Request, side: Side) -> [Part; 7] {
     ]
 }
 
-fn words_of(part: &Part, before: Option<Side>) -> String {
-    let name = part.side.map_or("", Side::name);
+fn put_words(text: &mut String, part: &Part, before: Option<Side>) {
     let is_same = part.side.is_some() && part.side == before;
-    let who = if is_same { "it".to_string() } else { format!("the {name}") };
-    match part.what {
-        What::Took => format!("{who} took"),
-        What::Window if is_same => "its window".to_string(),
-        What::Window => format!("the {name}'s window"),
-        What::Tcp => "TCP".to_string(),
-        What::Sent => format!("{who} sent for"),
-        What::Others => format!("{who} sent other streams for"),
-        What::Nothing => format!("{who} sent nothing on it for"),
-        What::Unknown => "not known".to_string(),
+    match part.side {
+        Some(_) if is_same => text.push_str("it"),
+        Some(side) => {
+            text.push_str("the ");
+            text.push_str(side.name());
+        }
+        None => {}
     }
+    text.push_str(match part.what {
+        What::Took => " took",
+        What::Window if is_same => "s window",
+        What::Window => "'s window",
+        What::Tcp => "TCP",
+        What::Sent => " sent for",
+        What::Others => " sent other streams for",
+        What::Nothing => " sent nothing on it for",
+        What::Unknown => "not known",
+    });
 }

@@ -17,7 +17,7 @@ use why::compare::Compared;
 use why::ends::{Apart, Joined};
 use why::{Form, Judged, Look, Whole};
 
-use words::{words_of, Asked, Asks, Captures, Colours, Words};
+use words::{words_of, Asked, Asks, Captures, Colours, LegsAsked, Words};
 
 const NAME: &str = "h2audit-why";
 const HELP: &str = include_str!("help.txt");
@@ -70,7 +70,8 @@ fn windows(report: &Path) -> Outcome {
     written(Path::new("-"), |to| why::write_report(&said, to)).map(|()| DONE)
 }
 
-/// Writes the rows of the report of the original, and of what it means. The status is that of h2audit-any.
+/// Writes the rows of the report of the original, and of what it means. The status is that of h2audit-any, or 1 where a
+/// connection that began before the capture has a fault that is certain.
 fn rows(asked: &Asked, files: &[OsString], file: &Path) -> Outcome {
     let files = in_order(asked, files)?;
     let mut rows = Output::begin(file)?;
@@ -138,8 +139,8 @@ fn in_order(asked: &Asked, files: &[OsString]) -> Result<Vec<OsString>, Failure>
 }
 
 /// What is to be explained.
-fn explained<'a>(asked: &'a Asked, files: &'a [OsString]) -> explain::Asked<'a> {
-    explain::Asked {
+fn explained<'a>(asked: &'a Asked, files: &'a [OsString]) -> explain::ExplainOptions<'a> {
+    explain::ExplainOptions {
         program: NAME,
         files,
         key_logs: &asked.key_logs,
@@ -150,10 +151,16 @@ fn explained<'a>(asked: &'a Asked, files: &'a [OsString]) -> explain::Asked<'a> 
         report: asked.audit.as_deref(),
         has_names: asked.has_names,
         has_query: asked.has_query,
-        has_spans: matches!(asked.form, Asks::Document | Asks::Charts | Asks::Lines),
+        has_spans: asked.trace.is_some() || matches!(asked.form, Asks::Document | Asks::Charts | Asks::Lines),
         has_frames: matches!(asked.captures, Captures::Ends(_)),
-        has_charts: asked.form == Asks::Charts,
+        has_charts: asked.trace.is_some() || asked.form == Asks::Charts,
+        has_legs: has_legs(asked),
     }
+}
+
+/// Whether both legs of a proxy are looked for: two captures are of one leg each.
+fn has_legs(asked: &Asked) -> bool {
+    asked.legs != LegsAsked::None && matches!(asked.captures, Captures::One(_))
 }
 
 fn judged<'a>(asked: &Asked, whole: &'a Whole<'a>) -> Judged<'a> {
@@ -169,6 +176,9 @@ fn ended(
 ) -> Outcome {
     if let Some(file) = &asked.junit {
         written(file, |to| why::write_junit(&judged, to))?;
+    }
+    if let (Some(file), [whole]) = (&asked.trace, wholes) {
+        written(file, |to| why::write_trace(whole, to))?;
     }
     if !asked.is_quiet {
         written(Path::new("-"), say_all)?;
@@ -203,7 +213,7 @@ fn look_of(asked: &Asked) -> Look {
         Colours::OnTerminal => terminal::is_output() && terminal::wants_colours(),
     };
     let width = asked.width.or_else(|| terminal::is_output().then(terminal::width));
-    Look { has_colours, width, is_all: asked.is_all }
+    Look { has_colours, width, is_all: asked.is_all, has_all_legs: asked.legs == LegsAsked::All }
 }
 
 /// Of two captures there is text, or one document.

@@ -22,6 +22,15 @@ pub struct Look {
     pub has_colours: bool,
     pub width: Option<usize>,
     pub is_all: bool,
+    /// Whether both legs of all requests of a proxy are shown.
+    pub has_all_legs: bool,
+}
+
+impl Look {
+    /// Whether every request is shown.
+    pub fn has_all_requests(&self) -> bool {
+        self.is_all || self.has_all_legs
+    }
 }
 
 pub struct Page<'a> {
@@ -127,7 +136,7 @@ mod tests {
 
     fn folded(text: &str, width: usize, has_colours: bool) -> String {
         let mut written = Vec::new();
-        let look = Look { has_colours, width: Some(width), is_all: false };
+        let look = Look { has_colours, width: Some(width), ..Look::default() };
         let files = Files::default();
         let done = Page::new(look, &files, &mut written).folded(text, "    ", Colour::Red);
         assert!(done.is_ok());

@@ -1,16 +1,19 @@
 //! The answer as rows for a database, which stand behind those of the report ([`reports::rows`]): a line of JSON for each
-//! request, each of its directions, each fault, and each connection that was not audited. Letters that a terminal would
-//! act on are escapes in names, and long names are cut.
+//! request, each of its directions, each fault, and each connection that was not audited, and for both legs of a proxy
+//! (`legs_rows`). Connections of which something is inferred are not in that report, and have their rows here
+//! (`joined_rows`). Letters that a terminal would act on are escapes in names, and long names are cut.
 
 use std::io::{self, Write};
 
-use explain::answer::{At, Direction, FaultSaid, Files, Request};
+use explain::answer::{At, Direction, FaultSaid, Files, Request, Sure};
 use reports::rows::row;
 use reports::Side;
 
 use crate::document::{cause_side, certainty_name, kind_name, why_name};
-use crate::gates::{stalled, why_not_audited};
+use crate::gates::why_not_audited;
+use crate::joined_rows;
 use crate::json::Json;
+use crate::legs_rows;
 use crate::phrases::{how_name, Phrases};
 use crate::summing::Whole;
 use crate::wording::{escaped, SIDES};
@@ -19,22 +22,30 @@ use crate::wording::{escaped, SIDES};
 const LONGEST_NAME: usize = 1024;
 
 pub fn write(whole: &Whole<'_>, to: &mut dyn Write) -> io::Result<()> {
-    let files = &whole.answer.files;
+    // As in the report, packets are numbered through all files of a capture.
+    let files = &Files::default();
     let mut json = Json::new(to);
     for one in &whole.connections {
         let number = one.said.number;
+        if let Some(inferred) = one.said.inferred() {
+            joined_rows::write(&mut json, one.said, inferred, files)?;
+        }
         if !one.said.is_audited() {
             row(&mut json, |json| reason(json, number, why_not_audited(one.said)))?;
         }
         for fault in &one.said.faults {
             row(&mut json, |json| certainty(json, number, fault))?;
         }
-        for request in one.said.requests.iter() {
+        for (place, request) in one.said.requests.iter().enumerate() {
             row(&mut json, |json| of_request(json, number, &request, &one.phrases, files))?;
             for side in SIDES {
                 row(&mut json, |json| direction(json, number, &request, side, files))?;
             }
+            legs_rows::request(&mut json, &request, (one.place, place), whole.answer)?;
         }
+    }
+    for (position, hop) in (1..).zip(&whole.answer.legs.hops) {
+        row(&mut json, |json| legs_rows::hop(json, position, hop, whole.answer))?;
     }
     json.finish()
 }
@@ -71,7 +82,7 @@ fn of_request(json: &mut Json<'_>, connection: u64, one: &Request, phrases: &Phr
     json.some_number(Some(one.promised_on).filter(|stream| *stream > 0));
     place(json, Some(one.opened), files);
     json.number(one.nanos());
-    json.number(stalled(one));
+    json.number(one.stalled());
     json.number(u8::from(one.is_hung));
     json.word(how_name(ended.how));
     json.some_word(ended.side.map(Side::name));
@@ -86,7 +97,9 @@ fn of_request(json: &mut Json<'_>, connection: u64, one: &Request, phrases: &Phr
     packet(json, cause.last, files);
     json.number(u8::from(cause.is_proved));
     json.text(&phrases.of(one));
-    json.some_number(phrases.needed_window(one));
+    json.some_number(cause.needed);
+    json.some_word(cause.sure.map(Sure::name));
+    json.number(u8::from(one.was_open));
 }
 
 fn direction(json: &mut Json<'_>, connection: u64, request: &Request, side: Side, files: &Files) {
@@ -108,7 +121,7 @@ fn cut(name: &str) -> String {
     escaped(&name).chars().take(LONGEST_NAME).collect()
 }
 
-/// Packet, frame and time; each capture of a database has one file.
+/// Packet, frame and time.
 fn place(json: &mut Json<'_>, at: Option<At>, files: &Files) {
     packet(json, at, files);
     json.some_number(at.map(|at| at.frame).filter(|frame| *frame > 0));

@@ -45,7 +45,7 @@ pub fn broken(answer: &Answer) -> String {
     let is_partial = !answer.not_audited.is_empty()
         || !answer.cuts.is_empty()
         || answer.audited().any(|one| one.joined.is_some())
-        || answer.audited().any(|one| !one.gaps.is_empty() || one.uncaptured.iter().any(|side| side.bytes > 0));
+        || answer.audited().any(|one| !one.gaps.is_empty() || !one.uncaptured.is_empty());
     format!("No rule was broken{}.", if is_partial { " in what was audited" } else { "" })
 }
 

@@ -1,8 +1,8 @@
 //! The answer in one sentence, and what the requests of each connection come to.
 
-use std::collections::BinaryHeap;
+use std::collections::{BinaryHeap, HashSet};
 
-use explain::answer::{Answer, CauseKind, ConnectionSaid, Nanos, Request};
+use explain::answer::{Answer, CauseKind, ConnectionSaid, Nanos, Request, Room};
 use reports::grouped;
 
 use crate::joined;
@@ -39,13 +39,15 @@ impl Verdict {
 /// The answer as all its forms need it: what is said, and sums and phrases of the requests of each connection.
 pub struct Whole<'a> {
     pub answer: &'a Answer,
-    pub connections: Vec<Connection<'a>>,
+    pub connections: Vec<SummedConnection<'a>>,
     pub summary: Summary,
 }
 
 /// A connection, with what its requests come to, and the phrases about each.
-pub struct Connection<'a> {
+pub struct SummedConnection<'a> {
     pub said: &'a ConnectionSaid,
+    /// Its place in the answer.
+    pub place: usize,
     pub tally: Tally,
     pub phrases: Phrases<'a>,
     /// The first of its requests by rank.
@@ -90,21 +92,24 @@ pub struct Summary {
 
 impl<'a> Whole<'a> {
     pub fn new(answer: &'a Answer) -> Whole<'a> {
-        let connections: Vec<_> = answer.connections.iter().map(|said| Connection::new(said, answer)).collect();
+        let mut room = Room::default();
+        let places = 0..answer.connections.len();
+        let connections: Vec<_> = places.map(|place| SummedConnection::new(place, answer, &mut room)).collect();
         let summary = summary_of(answer, &connections);
         Whole { answer, connections, summary }
     }
 
-    pub fn audited(&self) -> impl Iterator<Item = &Connection<'a>> {
+    pub fn audited(&self) -> impl Iterator<Item = &SummedConnection<'a>> {
         self.connections.iter().filter(|one| one.said.is_audited())
     }
 }
 
-impl<'a> Connection<'a> {
-    fn new(said: &'a ConnectionSaid, answer: &'a Answer) -> Connection<'a> {
+impl<'a> SummedConnection<'a> {
+    fn new(at: usize, answer: &'a Answer, room: &mut Room) -> SummedConnection<'a> {
+        let said = &answer.connections[at];
         let (mut tally, mut phrases) = (Tally::default(), Phrases::new(said, &answer.files));
-        let mut worst = BinaryHeap::new();
-        for (place, request) in said.requests.unnamed().enumerate() {
+        let mut worst = BinaryHeap::with_capacity(said.requests.len().min(MOST_REQUESTS));
+        for (place, request) in said.requests.unnamed(room).enumerate() {
             tally.add(&request);
             phrases.meet(&request);
             let rank = rank(&request, place);
@@ -115,7 +120,7 @@ impl<'a> Connection<'a> {
             }
         }
         phrases.all_met();
-        Connection { said, tally, phrases, worst: worst.into_sorted_vec() }
+        SummedConnection { said, place: at, tally, phrases, worst: worst.into_sorted_vec() }
     }
 }
 
@@ -148,7 +153,7 @@ impl Tally {
     }
 }
 
-fn summary_of(answer: &Answer, connections: &[Connection<'_>]) -> Summary {
+fn summary_of(answer: &Answer, connections: &[SummedConnection<'_>]) -> Summary {
     let audited = answer.audited().count() as u64;
     let of_audited = connections.iter().filter(|one| one.said.is_audited());
     let tally = of_audited.fold(Tally::default(), |sum, one| sum.and(&one.tally));
@@ -173,7 +178,13 @@ fn sentences(answer: &Answer, audited: u64, tally: &Tally, nanos: Nanos) -> Vec<
     if audited == 0 {
         return vec!["Nothing was audited, so nothing is said of flow control.".to_string()];
     }
-    let connections = count(audited, "connection");
+    // What follows a gap counts with its connection.
+    let root = |one: &ConnectionSaid| {
+        let joined = one.joined.as_ref();
+        joined.and_then(|joined| joined.behind.connection()).unwrap_or(one.number)
+    };
+    let roots: HashSet<u64> = answer.audited().map(root).collect();
+    let connections = count(roots.len() as u64, "connection");
     let mut said =
         vec![format!("{connections}, {}, {}.", count(tally.requests, "request"), time_of(nanos)), broken(answer)];
     said.push(if tally.held > 0 {

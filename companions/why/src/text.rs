@@ -1,20 +1,22 @@
 //! The answer as text: a warning first, then the connections with the most trouble, and in each the worst request.
 
+use std::cmp::Reverse;
 use std::collections::{HashMap, HashSet};
 use std::fmt::Write as _;
 use std::io::{self, Write};
 
-use explain::answer::{is_pushed, CauseKind, RoundTrip};
-use explain::answer::{At, ConnectionSaid, How, Place, Request, Signal, Source, StallSaid};
+use explain::answer::{is_pushed, CauseKind, Room, RoundTrip};
+use explain::answer::{Answer, At, ConnectionSaid, How, Place, Request, Signal, Source, StallSaid};
 use reports::{grouped, Side};
 
 use crate::document::signal_word;
-use crate::faults::{told, Told};
+use crate::faults::{told, ToldFault};
 use crate::joined;
+use crate::legs_said::{self, hop_words};
 use crate::life::life_of;
 use crate::page::{Colour, Look, Page};
 use crate::phrases::how_name;
-use crate::summing::{is_held, rank, Connection, Rank, Verdict, Whole, MOST_REQUESTS};
+use crate::summing::{is_held, rank, Rank, SummedConnection, Verdict, Whole, MOST_REQUESTS};
 use crate::wording::{code_name, count, escaped, grpc_name, letters, time_of};
 
 /// So many are shown where not all are asked for.
@@ -27,6 +29,9 @@ const NAME_UNKNOWN: &str = "(name unknown)";
 const PATH_UNKNOWN: &str = " (path unknown)";
 const PROVED: &str = "Faults and stalls are those of h2audit's proved report. Names, credits, lives, causes, TCP and \
                       place of capture are not: h2audit-why reads them from the frames and the packets.";
+
+const LEGS_PROVED: &str = "Of both legs of a proxy stalls are proved. Which request carried which, whose time it was, \
+                           and that one stall is the reason of another, are not.";
 
 /// The side that waited for the connection's window, and why: told once, with the stream of which it was told.
 type Waited = HashMap<(Side, String), u32>;
@@ -44,6 +49,10 @@ pub fn write(whole: &Whole<'_>, look: Look, to: &mut dyn Write) -> io::Result<()
         _ => Colour::Bold,
     };
     page.folded(&whole.summary.text, "  ", colour)?;
+    for hop in &answer.legs.hops {
+        page.line("")?;
+        page.folded(&hop_words(hop, answer), "  ", Colour::Bold)?;
+    }
     connections(whole, &mut page)?;
     if !answer.not_audited.is_empty() {
         let said: Vec<&str> = answer.not_audited.iter().map(|one| one.text.as_str()).collect();
@@ -54,21 +63,20 @@ pub fn write(whole: &Whole<'_>, look: Look, to: &mut dyn Write) -> io::Result<()
         page.line("")?;
         page.folded(PROVED, "  ", Colour::Dim)?;
         joined::proved(answer).map_or(Ok(()), |text| page.folded(text, "  ", Colour::Dim))?;
+        if !answer.legs.hops.is_empty() {
+            page.folded(LEGS_PROVED, "  ", Colour::Dim)?;
+        }
     }
     Ok(())
 }
 
 /// Those with faults first, then those with hung requests, then by the time of the worst one.
 fn connections(whole: &Whole<'_>, page: &mut Page<'_>) -> io::Result<()> {
-    let mut shown: Vec<&Connection<'_>> = whole.audited().collect();
-    shown.sort_by_key(|one| {
-        (one.said.faults.len(), one.tally.hung, one.tally.worst, std::cmp::Reverse(one.said.number))
-    });
-    shown.reverse();
-    let most = if page.look.is_all { shown.len() } else { shown.len().min(MOST_CONNECTIONS) };
+    let shown = by_trouble(whole);
+    let most = if page.look.has_all_requests() { shown.len() } else { shown.len().min(MOST_CONNECTIONS) };
     for one in &shown[..most] {
         page.line("")?;
-        connection(one, page)?;
+        connection(one, whole.answer, page)?;
     }
     if shown.len() > most {
         page.line("")?;
@@ -77,14 +85,31 @@ fn connections(whole: &Whole<'_>, page: &mut Page<'_>) -> io::Result<()> {
     Ok(())
 }
 
-fn connection(one: &Connection<'_>, page: &mut Page<'_>) -> io::Result<()> {
+/// What follows a connection's gaps stands below it, and counts with it.
+fn by_trouble<'a, 'b>(whole: &'b Whole<'a>) -> Vec<&'b SummedConnection<'a>> {
+    let root = |one: &SummedConnection<'_>| {
+        let joined = one.said.joined.as_ref();
+        joined.and_then(|joined| joined.behind.connection()).unwrap_or(one.said.number)
+    };
+    let trouble = |one: &SummedConnection<'_>| (one.said.faults.len(), one.tally.hung, one.tally.worst);
+    let mut most = HashMap::new();
+    for one in whole.audited() {
+        let known = most.entry(root(one)).or_insert_with(|| trouble(one));
+        *known = trouble(one).max(*known);
+    }
+    let mut shown: Vec<&SummedConnection<'_>> = whole.audited().collect();
+    shown.sort_by_key(|one| (Reverse(most.get(&root(one)).copied()), root(one), one.said.number));
+    shown
+}
+
+fn connection(one: &SummedConnection<'_>, answer: &Answer, page: &mut Page<'_>) -> io::Result<()> {
     let said = one.said;
     page.folded(&head(said), "  ", Colour::Bold)?;
     for line in joined::lines_of(said, page.look.is_all) {
         page.folded(&format!("  {line}"), "    ", Colour::Plain)?;
     }
     faults(said, page)?;
-    requests(one, page)?;
+    requests(one, answer, page)?;
     idle_stall(said, page)?;
     for note in &said.notes {
         page.folded(&format!("  {}", escaped(note)), "    ", Colour::Plain)?;
@@ -94,7 +119,7 @@ fn connection(one: &Connection<'_>, page: &mut Page<'_>) -> io::Result<()> {
 }
 
 fn head(said: &ConnectionSaid) -> String {
-    let mut text = format!("connection {}  {} -> {}", said.number, said.client, said.server);
+    let mut text = format!("connection {}  {} -> {}", joined::name_of(said), said.client, said.server);
     if let RoundTrip { to: Some([client, server]), source, .. } = said.round_trip {
         let by = if source == Some(Source::Http2) { " by HTTP/2's reactions" } else { "" };
         let _ = write!(text, "   round trip {}{by}", time_of(client + server));
@@ -117,7 +142,7 @@ fn faults(said: &ConnectionSaid, page: &mut Page<'_>) -> io::Result<()> {
     }
 }
 
-fn fault(told: &Told<'_>, page: &mut Page<'_>) -> io::Result<()> {
+fn fault(told: &ToldFault<'_>, page: &mut Page<'_>) -> io::Result<()> {
     let one = told.fault;
     let doubtful = if one.is_doubtful() { "DOUBTFUL " } else { "" };
     let mut text = format!("  {doubtful}FAULT: {}", told.sentence(&page.packet(Some(one.at))));
@@ -134,20 +159,21 @@ fn capital(text: &str) -> String {
 }
 
 /// The requests of a connection, of which the hung ones come first, then those that were held back longest.
-fn requests(one: &Connection<'_>, page: &mut Page<'_>) -> io::Result<()> {
+fn requests(one: &SummedConnection<'_>, answer: &Answer, page: &mut Page<'_>) -> io::Result<()> {
     let number = one.said.requests.len();
-    let mut ranks: Vec<Rank> = match page.look.is_all {
-        true => one.said.requests.unnamed().enumerate().map(|(place, one)| rank(&one, place)).collect(),
+    let mut room = Room::default();
+    let mut ranks: Vec<Rank> = match page.look.has_all_requests() {
+        true => one.said.requests.unnamed(&mut room).enumerate().map(|(place, one)| rank(&one, place)).collect(),
         false => one.worst.clone(),
     };
     ranks.sort_unstable();
-    let is_shown = |rank: &&Rank| page.look.is_all || rank.1 != 0 || number <= MOST_REQUESTS;
+    let is_shown = |rank: &&Rank| page.look.has_all_requests() || rank.1 != 0 || number <= MOST_REQUESTS;
     let shown: Vec<usize> = ranks.iter().filter(is_shown).map(|rank| rank.3).collect();
     let is_joined = one.said.joined.is_some();
-    let found = || shown.iter().filter_map(|index| one.said.requests.get(*index));
-    let width = found().map(|request| letters(&name_of(&request, is_joined))).max().unwrap_or(0).min(MOST_COLUMNS);
+    let found = || shown.iter().filter_map(|index| Some((*index, one.said.requests.get(*index)?)));
+    let width = found().map(|(_, request)| letters(&name_of(&request, is_joined))).max().unwrap_or(0).min(MOST_COLUMNS);
     let (mut told, mut held) = (Waited::new(), 0);
-    for request in found() {
+    for (place, request) in found() {
         held += u64::from(is_held(&request));
         let colour = match () {
             () if request.is_hung => Colour::Red,
@@ -155,8 +181,12 @@ fn requests(one: &Connection<'_>, page: &mut Page<'_>) -> io::Result<()> {
             () => Colour::Plain,
         };
         let cause = cause(&request, &one.phrases.of(&request), &mut told);
-        page.folded(&line_of(&request, (name_of(&request, is_joined), width), &cause, page), "      ", colour)?;
+        let (name, before) = (name_of(&request, is_joined), joined::before_what(one.said));
+        page.folded(&line_of(&request, (name, width), before, &cause, page), "      ", colour)?;
         life_of(&request).map_or(Ok(()), |life| page.folded(&format!("      {life}"), "        ", Colour::Plain))?;
+        for line in legs_said::lines_of(&request, (one.place, place), page.look.has_all_legs, answer) {
+            page.folded(&format!("      {line}"), "        ", Colour::Plain)?;
+        }
     }
     if number > shown.len() {
         let rest = count((number - shown.len()) as u64, "request");
@@ -167,7 +197,8 @@ fn requests(one: &Connection<'_>, page: &mut Page<'_>) -> io::Result<()> {
     Ok(())
 }
 
-fn name_of(request: &Request, is_joined: bool) -> String {
+/// The name of a request, as far as it is known; a push is said to be one.
+pub fn name_of(request: &Request, is_joined: bool) -> String {
     let pushed = if is_pushed(request.stream) { "pushed " } else { "" };
     let has_target = request.path.is_some() || request.authority.is_some();
     let is_path_known = !is_joined || has_target || request.method.is_none();
@@ -188,12 +219,12 @@ fn cause(request: &Request, text: &str, told: &mut Waited) -> String {
     format!("{lasts}: the connection's window, as stream {stream}")
 }
 
-fn line_of(request: &Request, (name, width): (String, usize), cause: &str, page: &Page<'_>) -> String {
+fn line_of(request: &Request, (name, width): (String, usize), before: &str, cause: &str, page: &Page<'_>) -> String {
     let mut status = request.status.map_or("-".to_string(), |status| status.to_string());
     if let Some(code) = request.grpc_status.filter(|code| *code > 0) {
         let _ = write!(status, " grpc {}", grpc_name(code));
     }
-    let before = if request.was_open { " (opened before the capture)" } else { "" };
+    let before = if request.was_open { format!(" (opened {before})") } else { String::new() };
     let stream = format!("stream {}{before}", request.stream);
     let lasts = time_of(request.nanos());
     let mut text = format!("  {name:width$}  {stream:10}  {status}  {lasts:>9}   {cause}");
@@ -222,7 +253,8 @@ fn idle_stall(said: &ConnectionSaid, page: &mut Page<'_>) -> io::Result<()> {
     if said.stalls.iter().all(|stall| stall.end.is_some()) {
         return Ok(());
     }
-    let held = said.requests.unnamed().filter(is_held);
+    let mut room = Room::default();
+    let held = said.requests.unnamed(&mut room).filter(is_held);
     let named: HashSet<(Side, u32)> = held
         .map(|request| match request.cause.kind {
             CauseKind::StreamWindow => (request.cause.side, request.stream),

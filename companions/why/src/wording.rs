@@ -1,9 +1,10 @@
 //! How the answer is worded: rates, shares, lists of streams, and what it has of the explanation's words.
 
 use std::borrow::Cow;
+use std::fmt::Write;
 
 use explain::answer::Nanos;
-pub use explain::words::{code_name, count, time_of};
+pub use explain::words::{code_name, count, put_time, time_of};
 use reports::{grouped, Side};
 
 pub const SIDES: [Side; 2] = [Side::Client, Side::Server];
@@ -28,16 +29,14 @@ const GRPC: [&str; 17] = [
 ];
 /// So many of a list are named.
 const MOST_NAMED: usize = 8;
-const SECOND: i128 = 1_000_000_000;
 
 pub fn grpc_name(code: u32) -> Cow<'static, str> {
     let known = usize::try_from(code).ok().and_then(|code| GRPC.get(code));
     known.map_or_else(|| code.to_string().into(), |name| Cow::Borrowed(*name))
 }
 
-/// Bytes in a time, as so many a second.
-pub fn rate_of(bytes: i128, nanos: Nanos) -> String {
-    let a_second = bytes * SECOND / i128::from(nanos.max(1));
+/// So many bytes a second.
+pub fn rate_of(a_second: i128) -> String {
     for (unit, size) in [("GB", 1_000_000_000), ("MB", 1_000_000), ("kB", 1_000)] {
         if a_second >= size {
             return match (a_second * 10 + size / 2) / size {
@@ -51,12 +50,21 @@ pub fn rate_of(bytes: i128, nanos: Nanos) -> String {
 
 /// A share in whole percent; what is there is never said to be 0 %.
 pub fn percent(part: Nanos, whole: Nanos) -> String {
+    let mut text = String::new();
+    put_percent(&mut text, part, whole);
+    text
+}
+
+/// The same, behind a text.
+pub fn put_percent(text: &mut String, part: Nanos, whole: Nanos) {
     let (part, whole) = (i128::from(part), i128::from(whole));
     match whole {
-        _ if whole <= 0 && part != 0 => "100 %".to_string(),
-        _ if whole <= 0 => "0 %".to_string(),
-        _ if part != 0 && part * 1000 / whole < 10 => "less than 1 %".to_string(),
-        _ => format!("{} %", (part * 100 + whole / 2) / whole),
+        _ if whole <= 0 && part != 0 => text.push_str("100 %"),
+        _ if whole <= 0 => text.push_str("0 %"),
+        _ if part != 0 && part * 1000 / whole < 10 => text.push_str("less than 1 %"),
+        _ => {
+            let _ = write!(text, "{} %", (part * 100 + whole / 2) / whole);
+        }
     }
 }
 
@@ -101,16 +109,16 @@ mod tests {
     #[test]
     fn rates() {
         let cases = [
-            (65_535, 101_134_000, "648 kB/s"),
-            (100_000, 1_000_000_000, "100 kB/s"),
-            (99_949, 1_000_000_000, "99.9 kB/s"),
-            (99_950, 1_000_000_000, "100 kB/s"),
-            (999, 1_000_000_000, "999 B/s"),
-            (5_000_000_000_000, 1_000_000_000, "5,000 GB/s"),
-            (7, 0, "7.0 GB/s"),
+            (648_001, "648 kB/s"),
+            (100_000, "100 kB/s"),
+            (99_949, "99.9 kB/s"),
+            (99_950, "100 kB/s"),
+            (999, "999 B/s"),
+            (5_000_000_000_000, "5,000 GB/s"),
+            (7_000_000_000, "7.0 GB/s"),
         ];
-        for (bytes, nanos, said) in cases {
-            assert_eq!(rate_of(bytes, nanos), said);
+        for (a_second, said) in cases {
+            assert_eq!(rate_of(a_second), said);
         }
     }
 

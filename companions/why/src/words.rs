@@ -1,7 +1,7 @@
 //! The command line of h2audit-why.
 
 use std::ffi::OsString;
-use std::path::PathBuf;
+use std::path::{Path, PathBuf};
 
 use explain::answer::Nanos;
 use lexopt::Arg::{Long, Short, Value};
@@ -46,6 +46,16 @@ pub enum Asks {
     Windows(PathBuf),
 }
 
+/// Of which requests both legs are told.
+#[derive(Clone, Copy, Debug, Default, PartialEq, Eq)]
+pub enum LegsAsked {
+    /// Of front requests that were slow.
+    #[default]
+    Slow,
+    All,
+    None,
+}
+
 /// The captures of which is said something.
 #[derive(Clone, Debug, PartialEq, Eq)]
 pub enum Captures {
@@ -68,6 +78,8 @@ pub struct Asked {
     pub is_all: bool,
     pub has_query: bool,
     pub has_names: bool,
+    /// Whether both legs of proxies are told: of all requests, of some, or of none.
+    pub legs: LegsAsked,
     pub form: Asks,
     pub colours: Colours,
     pub width: Option<usize>,
@@ -80,6 +92,7 @@ pub struct Asked {
     pub gates: Gates,
     pub has_gates: bool,
     pub junit: Option<PathBuf>,
+    pub trace: Option<PathBuf>,
     pub is_quiet: bool,
 }
 
@@ -97,6 +110,7 @@ struct Taken {
     is_all: bool,
     has_query: bool,
     has_no_requests: bool,
+    legs: LegsAsked,
     colours: Colours,
     width: Option<usize>,
     program: Option<OsString>,
@@ -108,6 +122,7 @@ struct Taken {
     life: Option<Nanos>,
     needs_http2: bool,
     junit: Option<PathBuf>,
+    trace: Option<PathBuf>,
     is_quiet: bool,
 }
 
@@ -125,6 +140,8 @@ pub fn words_of(words: Vec<OsString>) -> Result<Words, Failure> {
             Long("all") => taken.is_all = true,
             Long("query") => taken.has_query = true,
             Long("no-requests") => taken.has_no_requests = true,
+            Long("legs") => taken.asks_legs(LegsAsked::All)?,
+            Long("no-legs") => taken.asks_legs(LegsAsked::None)?,
             Long("json") => taken.form("--json", Asks::Document)?,
             Long("json-lines") => taken.form("--json-lines", Asks::Lines)?,
             Long("charts") => taken.form("--charts", Asks::Charts)?,
@@ -149,6 +166,7 @@ pub fn words_of(words: Vec<OsString>) -> Result<Words, Failure> {
             Long("fail-life") => taken.life = Some(duration_of("--fail-life", parser.value().map_err(wrong)?)?),
             Long("require-http2") => taken.needs_http2 = true,
             Long("junit") => taken.junit = Some(PathBuf::from(parser.value().map_err(wrong)?)),
+            Long("trace") => taken.trace = Some(PathBuf::from(parser.value().map_err(wrong)?)),
             Long("quiet") => taken.is_quiet = true,
             Long("compare") => taken.compare = Some(two(&mut parser, "--compare")?),
             Long("ends") => taken.ends = Some(two(&mut parser, "--ends")?),
@@ -172,6 +190,14 @@ impl Taken {
         }
     }
 
+    fn asks_legs(&mut self, legs: LegsAsked) -> Result<(), Failure> {
+        if self.legs != LegsAsked::Slow && self.legs != legs {
+            return Err(Failure::Usage("argument --no-legs: not allowed with argument --legs".to_string()));
+        }
+        self.legs = legs;
+        Ok(())
+    }
+
     /// Whether something of CI is asked for.
     fn has_gates(&self) -> bool {
         let has_times = self.stall.is_some() || self.life.is_some();
@@ -181,9 +207,8 @@ impl Taken {
     fn asked(self) -> Result<Asked, Failure> {
         self.check()?;
         let has_gates = self.has_gates();
-        // Rows are those of h2audit-any; and two ends are known by handshakes.
-        let is_of_whole = matches!(self.form, Some((_, Asks::Rows(_)))) || self.ends.is_some();
-        let is_joined = !self.is_not_joined && !is_of_whole;
+        // Two ends are known by handshakes.
+        let is_joined = !self.is_not_joined && self.ends.is_none();
         let captures = match (self.compare, self.ends) {
             (Some(two), _) => Captures::Compare(two),
             (None, Some(two)) => Captures::Ends(two),
@@ -199,6 +224,7 @@ impl Taken {
             is_all: self.is_all,
             has_query: self.has_query,
             has_names: !self.has_no_requests,
+            legs: self.legs,
             form: self.form.map_or(Asks::Text, |(_, form)| form),
             colours: self.colours,
             width: self.width,
@@ -209,6 +235,7 @@ impl Taken {
             gates: Gates { reasons, stall: self.stall, life: self.life, needs_http2: self.needs_http2 },
             has_gates,
             junit: self.junit,
+            trace: self.trace,
             is_quiet: self.is_quiet,
         })
     }
@@ -245,7 +272,34 @@ impl Taken {
         if form == Some("--rows") && self.has_gates() {
             return refuse("--rows has no reasons to fail, and no JUnit file".to_string());
         }
+        match self.trace.as_deref().map(Path::to_str) {
+            Some(_) if of_two.is_some() || matches!(form, Some("--rows" | "--windows")) => {
+                let other = of_two.or(form).unwrap_or_default();
+                return refuse(format!("--trace is of one answer: not with {other}"));
+            }
+            Some(Some("-")) if !self.is_quiet => return refuse("--trace - goes with --quiet".to_string()),
+            _ => {}
+        }
+        self.check_legs(of_two)?;
         self.check_report()
+    }
+
+    /// Whether what is about both legs of a proxy goes together.
+    fn check_legs(&self, of_two: Option<&str>) -> Result<(), Failure> {
+        let reason = self.reasons.iter().find(|reason| reason.is_of_legs());
+        match (of_two, self.legs, reason) {
+            (Some(option), LegsAsked::All, _) => {
+                Err(Failure::Usage(format!("{option} has no legs of a proxy: not with --legs")))
+            }
+            (Some(option), _, Some(reason)) => {
+                Err(Failure::Usage(format!("{option} has no legs of a proxy: not with --fail-on {}", reason.name())))
+            }
+            (None, LegsAsked::None, Some(reason)) => {
+                let why = format!("--fail-on {} is about both legs: not with --no-legs", reason.name());
+                Err(Failure::Usage(why))
+            }
+            _ => Ok(()),
+        }
     }
 
     /// Whether what is about the report goes together.
@@ -324,87 +378,4 @@ fn digits_of(word: &str) -> Option<i64> {
 }
 
 #[cfg(test)]
-mod tests {
-    use super::{nanos_of, words_of, Asked, Asks, Captures, Words};
-    use why::Reason;
-
-    fn asked(words: &[&str]) -> Result<Box<Asked>, String> {
-        match words_of(words.iter().map(|word| word.into()).collect()) {
-            Ok(Words::Why(asked)) => Ok(asked),
-            Ok(_) => Err("help or version".to_string()),
-            Err(failure) => Err(failure.message().to_string()),
-        }
-    }
-
-    fn refused(words: &[&str]) -> String {
-        asked(words).err().unwrap_or_default()
-    }
-
-    #[test]
-    fn times() {
-        let cases = [
-            ("100ms", Some(100_000_000)),
-            ("1.5s", Some(1_500_000_000)),
-            ("250us", Some(250_000)),
-            ("250µs", Some(250_000)),
-            ("7ns", Some(7)),
-            ("0.9ns", Some(0)),
-            ("999999999.999999999s", Some(999_999_999_999_999_999)),
-            ("1", None),
-            ("s", None),
-            ("1.s", None),
-            (".5s", None),
-            ("-1s", None),
-            ("1e3ms", None),
-            ("1000000000s", None),
-            ("1 s", None),
-        ];
-        for (word, nanos) in cases {
-            assert_eq!(nanos_of(word), nanos, "{word}");
-        }
-    }
-
-    #[test]
-    fn what_goes_together() -> Result<(), String> {
-        let found = asked(&["a", "--fail-on", "fault,hung", "--fail-on=gap", "-k", "keys", "b", "--rows", "-"]);
-        assert_eq!(found.err().as_deref(), Some("--rows has no reasons to fail, and no JUnit file"));
-        let found = asked(&["a", "--fail-on", "fault,hung", "--fail-on=gap", "-kkeys", "b", "--json", "--json"])?;
-        assert_eq!(found.gates.reasons, [Reason::Fault, Reason::Hung, Reason::Gap]);
-        assert_eq!((&found.form, found.has_gates), (&Asks::Document, true));
-        assert_eq!(found.captures, Captures::One(vec!["a".into(), "b".into()]));
-        assert_eq!(asked(&["a", "--fail-life", "2s"])?.gates.life, Some(2_000_000_000));
-        let found = asked(&["--ends", "a", "-", "--rows"]);
-        assert_eq!(found.err().as_deref(), Some("argument --rows: expected one argument"));
-        assert_eq!(asked(&["--ends", "a", "-"])?.captures, Captures::Ends(["a".into(), "-".into()]));
-        assert!(!asked(&["--ends", "a", "b"])?.has_gates);
-        let found = asked(&["--rows", "rows", "--report", "-", "a"])?;
-        assert_eq!((&found.form, found.report.clone()), (&Asks::Rows("rows".into()), Some("-".into())));
-        assert_eq!(asked(&["--rows", "-", "--audit", "report", "a"])?.audit, Some("report".into()));
-        Ok(())
-    }
-
-    #[test]
-    fn what_does_not() {
-        assert_eq!(refused(&["--json", "--rows", "a"]), "argument --rows: not allowed with argument --json");
-        assert_eq!(refused(&["--compare", "a", "b", "c"]), "--compare takes two captures, and no other");
-        assert_eq!(refused(&["--compare", "a", "b", "--ends", "c", "d"]), "--compare takes two captures, and no other");
-        assert_eq!(refused(&["--ends", "a", "b", "--json-lines"]), "--ends has no lines of JSON: --json");
-        assert_eq!(refused(&["--ends", "a", "b", "--rows", "c"]), "--ends has no rows: --json");
-        assert_eq!(refused(&["--ends", "a", "--json"]), "argument --ends: expected 2 arguments");
-        assert_eq!(refused(&["--ends", "a"]), "argument --ends: expected 2 arguments");
-        assert_eq!(refused(&["--width", "39"]), "argument --width: '39' is no number from 40 to 1000");
-        assert!(refused(&["--color", "x"]).ends_with("(choose from 'auto', 'always', 'never')"));
-        assert!(refused(&["--fail-on", "fault,x"]).starts_with("argument --fail-on: 'x' is no reason: fault, "));
-        assert!(refused(&["--fail-stall", "5"]).contains("'5' is no time, as 100ms"));
-        assert!(refused(&["--fail-life", "5"]).starts_with("argument --fail-life: '5' is no time"));
-        assert!(
-            refused(&["--no-requests", "--fail-on", "hung,status"]).starts_with("--fail-on status reads the fields")
-        );
-        assert_eq!(refused(&["--report", "a"]), "--report goes with --rows");
-        assert_eq!(refused(&["--json", "--audit", "a"]), "--audit goes with --rows");
-        assert_eq!(refused(&["--rows", "-", "--report", "-"]), "--rows and --report are the same file");
-        let by_name = "--compare matches requests by their names: not with --no-requests";
-        assert_eq!(refused(&["--compare", "a", "b", "--no-requests"]), by_name);
-        assert_eq!(refused(&["--nothing"]), "unrecognized arguments: --nothing");
-    }
-}
+mod tests;

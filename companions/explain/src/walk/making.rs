@@ -7,8 +7,8 @@ use crate::windows::ConnectionWindow;
 
 impl Walk {
     /// Takes one, which has no number.
-    pub(super) fn make_up(&mut self, asking: &mut Asking, frame: Frame<'_>) {
-        let Frame { side, cut, at, .. } = frame;
+    pub(super) fn make_up(&mut self, asking: &mut Asking, frame: &Frame<'_>) {
+        let Frame { side, cut, at, .. } = *frame;
         let number = cut.head.stream;
         match cut.head.kind {
             kind::DATA => {
@@ -23,14 +23,14 @@ impl Walk {
             }
             kind::HEADERS => {
                 if side == import::CLIENT && self.about.was_open(number) {
-                    self.open(asking, frame, number, 0);
+                    self.open_again(asking, frame, number);
                 }
                 self.blocks[side].begin(at, (number, false), cut.payload, true);
             }
             kind::SETTINGS => self.settings(asking, frame),
             kind::PUSH_PROMISE => {
                 let promised = cut.number().map_or(0, |number| number & STREAM);
-                self.open(asking, frame, promised, 0);
+                self.open_again(asking, frame, promised);
             }
             kind::WINDOW_UPDATE => self.grant(frame),
             _ => {}
@@ -38,8 +38,16 @@ impl Walk {
         self.made(frame);
     }
 
+    /// A stream was open. What its request asked for is known where that was read before a gap.
+    fn open_again(&mut self, asking: &Asking, frame: &Frame<'_>, number: u32) {
+        self.open(asking, frame, number, 0);
+        if let Some(asked) = self.asked_before.remove(&number) {
+            self.table.touch(number, |stream| stream.request = Some(asked));
+        }
+    }
+
     /// Where all that was made up came, windows stand as they did when the capture began.
-    fn made(&mut self, frame: Frame<'_>) {
+    fn made(&mut self, frame: &Frame<'_>) {
         let inferred = match &mut self.beginning {
             Some(beginning) => {
                 beginning.left -= 1;

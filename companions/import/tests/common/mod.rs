@@ -8,7 +8,7 @@ use std::io::{self, Write};
 use std::path::{Path, PathBuf};
 
 use captures::{pcap, RAW};
-use import::{imported, Asked, Bounds, Courses, Listener, Record, Sink, Summary, Target};
+use import::{imported, Bounds, Courses, ImportOptions, Listener, Record, Sink, Summary, Target};
 use programs::Failure;
 
 pub const INTERESTING: [&[u8]; 8] = [
@@ -131,7 +131,7 @@ pub fn import_in<T: Default>(
     let files: Vec<OsString> = paths.iter().map(OsString::from).collect();
     let key_logs: Vec<OsString> = keys.exists().then(|| keys.into()).into_iter().collect();
     let mut sink = Sink::new(&mut made, &mut listener)?;
-    let asked = Asked {
+    let asked = ImportOptions {
         program: "import",
         files: &files,
         key_logs: &key_logs,
@@ -181,8 +181,8 @@ impl Datagram {
 pub fn captured<'a>(packets: impl IntoIterator<Item = &'a (u64, Datagram)>) -> Vec<u8> {
     let mut writer = pcap::Writer::new(Vec::new(), RAW).unwrap();
     for (nanos, datagram) in packets {
-        let (time, bytes) = (((nanos / 1_000_000_000) as u32, (nanos % 1_000_000_000) as u32), datagram.bytes());
-        writer.write(time, bytes.len() as u32, [&bytes, &[]]).unwrap();
+        let bytes = datagram.bytes();
+        writer.write(*nanos as i64, bytes.len() as u32, [&bytes, &[]]).unwrap();
     }
     writer.into_inner()
 }

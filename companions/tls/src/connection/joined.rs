@@ -2,7 +2,7 @@
 
 use captures::Arrival;
 
-use super::{Connection, Emit, Shared};
+use super::{Emit, Shared, TlsConnection};
 use crate::middle::{Middle, Released, Settled};
 use crate::reason::Reason;
 use crate::{CLIENT, SERVER};
@@ -10,19 +10,36 @@ use crate::{CLIENT, SERVER};
 #[cfg(test)]
 mod tests;
 
-impl Connection {
+impl TlsConnection {
     /// A connection of TLS 1.3 whose bytes are there from any place on, also within a record. Which side is the client's
-    /// need not be known: [`Connection::client`] tells. Each side's offsets begin with its first byte that is there.
-    pub fn from_middle(number: u64, shared: &Shared) -> Connection {
-        Connection { middle: Some(Box::default()), ..Connection::new(number, shared) }
+    /// need not be known: [`TlsConnection::client`] tells. Each side's offsets begin with its first byte that is there.
+    pub fn from_middle(number: u64, shared: &Shared) -> TlsConnection {
+        TlsConnection { middle: Some(Box::default()), ..TlsConnection::new(number, shared) }
     }
 
     /// What this connection of TLS 1.3 is behind bytes that are lost, of one side or both: it is read from its middle on,
-    /// by the secrets and from the numbers on that were reached. None where no application data of it was read.
-    pub fn behind_loss(&self, number: u64, shared: &Shared) -> Option<Connection> {
-        let before: Vec<_> = [CLIENT, SERVER].iter().filter_map(|side| self.handshake.opens(*side)).collect();
+    /// by the secrets and from the numbers on that were reached. A side without a hole was read to its end, also what
+    /// came behind the other one's: its numbers are looked for from the first on, and from some key updates before the
+    /// last one. None where no application data of it was read.
+    pub fn behind_loss(&self, number: u64, shared: &Shared) -> Option<TlsConnection> {
+        let opens = |side: &usize| match self.is_whole[*side] {
+            true => self.handshake.opened_from(*side),
+            false => self.handshake.opens(*side),
+        };
+        let before: Vec<_> = [CLIENT, SERVER].iter().filter_map(opens).collect();
         let middle = (!before.is_empty()).then(|| Box::new(Middle::behind(before)))?;
-        Some(Connection { middle: Some(middle), ..Connection::new(number, shared) })
+        Some(TlsConnection { middle: Some(middle), ..TlsConnection::new(number, shared) })
+    }
+
+    /// Whether it can be read behind lost bytes.
+    pub fn goes_on(&self) -> bool {
+        [CLIENT, SERVER].iter().any(|side| self.handshake.opens(*side).is_some())
+    }
+
+    /// Lets go of what waits behind holes: nothing more of it is read.
+    pub fn let_go(&mut self) {
+        self.is_whole = [CLIENT, SERVER].map(|side| !self.sides[side].flow.has_hole());
+        self.sides.iter_mut().for_each(|side| side.flow = Default::default());
     }
 
     /// The index of the client's side. Of a connection that is read from its middle on, the secret tells that.

@@ -10,7 +10,7 @@ use crate::records::Header;
 #[derive(Default)]
 pub struct Queue {
     pub records: VecDeque<Waiting>,
-    /// Of each side, the numbers of the records that were not read yet. The first record in the queue has this number.
+    /// The numbers of each side's records that were not read yet. The first record in the queue has the number `first`.
     pub unread: [VecDeque<u64>; 2],
     first: u64,
     pub bytes: usize,

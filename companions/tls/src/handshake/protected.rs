@@ -6,6 +6,7 @@ use crate::key_schedule::next_secret;
 use crate::protection::DoesNotOpen;
 use crate::reason::Reason;
 use crate::records::{Header, ALERT, APPLICATION_DATA, CHANGE_CIPHER_SPEC, HANDSHAKE};
+use crate::search::MOST_UPDATES;
 use crate::SERVER;
 
 const FATAL: u8 = 2;
@@ -88,8 +89,13 @@ impl Handshake {
             (hellos::END_OF_EARLY_DATA, Stage::Early) => self.change_stage(side, Stage::Handshake),
             (hellos::KEY_UPDATE, Stage::Traffic) => {
                 let suite = self.suite.ok_or(Reason::NotTls)?;
-                let secret = next_secret(&suite, &self.halves[side].secret);
-                self.halves[side].updates += 1;
+                let half = &mut self.halves[side];
+                let secret = next_secret(&suite, &half.secret);
+                half.updates += 1;
+                half.earlier.push_back(std::mem::take(&mut half.secret));
+                if half.earlier.len() > MOST_UPDATES as usize {
+                    half.earlier.pop_front();
+                }
                 self.protect(side, secret)?;
             }
             _ => {}

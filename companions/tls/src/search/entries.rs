@@ -12,8 +12,8 @@ use crate::{CLIENT, SERVER};
 
 /// What opens a record.
 #[derive(Clone)]
-pub struct Found {
-    /// Of the two samples.
+pub struct FoundSecret {
+    /// Which of the two samples it opens.
     pub side: usize,
     /// Whose the secret is.
     pub role: usize,
@@ -30,11 +30,11 @@ pub struct Found {
 pub enum Given<'a> {
     Nothing,
     /// What opens the other side.
-    Other(&'a Found),
+    Other(&'a FoundSecret),
     /// What opens a later record of the side, behind a key update.
-    Later(&'a Found),
+    Later(&'a FoundSecret),
     /// What opened the next record of each side, or of one, before some were lost.
-    Before(&'a [Found]),
+    Before(&'a [FoundSecret]),
 }
 
 impl Given<'_> {
@@ -79,8 +79,8 @@ pub struct Entry {
 }
 
 impl Entry {
-    fn of(found: &Found) -> Entry {
-        let Found { random, role, stage, suite, updates, number, side, .. } = *found;
+    fn of(found: &FoundSecret) -> Entry {
+        let FoundSecret { random, role, stage, suite, updates, number, side, .. } = *found;
         let (secret, keys) = (found.secret.clone(), traffic_keys(&suite, &found.secret));
         Entry { random, role, stage, suites: vec![suite], secret, keys, updates, from: number, side: Some(side) }
     }
@@ -98,9 +98,9 @@ impl Entry {
     }
 
     /// That it opens the record of this number.
-    pub fn found(&self, side: usize, suite: Suite, number: u64) -> Found {
+    pub fn found(&self, side: usize, suite: Suite, number: u64) -> FoundSecret {
         let Entry { random, role, stage, updates, .. } = *self;
-        Found { side, role, random, suite, stage, updates, secret: self.secret.clone(), number }
+        FoundSecret { side, role, random, suite, stage, updates, secret: self.secret.clone(), number }
     }
 }
 

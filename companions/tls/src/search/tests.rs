@@ -44,9 +44,9 @@ fn what_is_found_says_whose_it_is() {
     let found = Search::default().find(&keys, &[None, sample], &Given::Nothing).ok().unwrap();
     assert_eq!((found.side, found.role, found.number, found.updates), (1, SERVER, 601, 0));
     assert_eq!((found.random[31], found.suite.code), (17, 0x1303));
-    let other = |random, role| Given::Other(&Found { random, role, ..found.clone() }).has(&found.random, SERVER);
+    let other = |random, role| Given::Other(&FoundSecret { random, role, ..found.clone() }).has(&found.random, SERVER);
     assert!(other(found.random, CLIENT) && !other(found.random, SERVER) && !other([0; 32], CLIENT));
-    let of_client = Found { role: CLIENT, ..found.clone() };
+    let of_client = FoundSecret { role: CLIENT, ..found.clone() };
     let again = Search::default().find(&keys, &[sample, None], &Given::Other(&of_client)).ok().unwrap();
     assert_eq!((again.side, again.number), (0, 601));
 }

@@ -2,7 +2,7 @@ use std::time::{Duration, Instant};
 
 use captures::Arrival;
 
-use crate::connection::{Connection, Emit, Known, Shared};
+use crate::connection::{Emit, Known, Shared, TlsConnection};
 use crate::reason::Reason;
 use crate::records::{ALERT, APPLICATION_DATA, HANDSHAKE};
 use crate::sealing::{Sealer, CODES};
@@ -52,8 +52,8 @@ fn shared_of(client: &Sealer, server: &Sealer) -> Shared {
 }
 
 /// Reads segments, each of a side, which packets from 1 on bring.
-fn read(shared: &mut Shared, segments: &[(usize, &[u8])]) -> (Plain, Connection) {
-    let (mut plain, mut connection) = (Plain::default(), Connection::from_middle(0, shared));
+fn read(shared: &mut Shared, segments: &[(usize, &[u8])]) -> (Plain, TlsConnection) {
+    let (mut plain, mut connection) = (Plain::default(), TlsConnection::from_middle(0, shared));
     let mut offsets = [0; 2];
     for (packet, (side, data)) in (1..).zip(segments) {
         let arrival = Arrival { packet, nanos: 0 };
@@ -70,7 +70,7 @@ fn snapped_packets() {
     let mut shared = shared(&[1; 48], &[2; 48]);
     let record = Sealer::new(0x1302, 1).data(&text(500));
     for (is_snapped, wanted) in [(false, Reason::Tail(30)), (true, Reason::Snapped)] {
-        let mut connection = Connection::from_middle(0, &shared);
+        let mut connection = TlsConnection::from_middle(0, &shared);
         let arrival = Arrival { packet: 1, nanos: 0 };
         connection.segment(&mut shared, &mut Plain::default(), CLIENT, 0, &record[..30], arrival);
         connection.segment(&mut shared, &mut Plain::default(), CLIENT, 500, &record[..30], arrival);
@@ -288,7 +288,39 @@ fn behind_lost_records() {
         assert_eq!((plain.of(SERVER), plain.of(CLIENT)), (b"ef".to_vec(), b"g".to_vec()), "{updates}");
         assert_eq!(connection.client(), Some(CLIENT));
     }
-    assert!(Connection::from_middle(0, &Shared::default()).behind_loss(1, &Shared::default()).is_none());
+    assert!(TlsConnection::from_middle(0, &Shared::default()).behind_loss(1, &Shared::default()).is_none());
+}
+
+/// A side of which nothing was lost was read to its end, also behind key updates that came after the other one's loss.
+#[test]
+fn key_updates_behind_the_loss_of_the_other_side() {
+    for (before, behind) in [(0, 1), (1, 1), (0, 4), (6, 3)] {
+        let (mut client, mut server) = (Sealer::new(0x1301, 1), Sealer::new(0x1301, 2));
+        let mut shared = Shared { search: Search::new(200, 60), ..shared_of(&client, &server) };
+        let updated = |sealer: &mut Sealer| [sealer.update(), sealer.data(b"u"), sealer.data(b"v")].concat();
+        let mut up = [client.data(b"a"), client.data(b"b")].concat();
+        (0..before).for_each(|_| up.extend(updated(&mut client)));
+        let mut more = [client.data(b"g"), client.data(b"h")].concat();
+        (0..behind).for_each(|_| more.extend(updated(&mut client)));
+        let down = [server.data(b"c"), server.data(b"d")].concat();
+        let lost = server.data(b"lost").len();
+        let rest = [server.data(b"e"), server.data(b"f")].concat();
+        let (mut plain, mut first) = (Plain::default(), TlsConnection::from_middle(0, &shared));
+        let segments =
+            [(CLIENT, 0, &up), (SERVER, 0, &down), (SERVER, down.len() + lost, &rest), (CLIENT, up.len(), &more)];
+        for (side, offset, data) in segments {
+            first.segment(&mut shared, &mut plain, side, offset as u32, data, Arrival { packet: 1, nanos: 0 });
+        }
+        first.finish(&mut shared, &mut plain, &KNOWN);
+        first.let_go();
+        let (mut plain, mut next) = (Plain::default(), first.behind_loss(1, &shared).unwrap());
+        for (side, data) in [(SERVER, &rest), (CLIENT, &more)] {
+            next.segment(&mut shared, &mut plain, side, 0, data, Arrival { packet: 1, nanos: 0 });
+        }
+        next.finish(&mut shared, &mut plain, &KNOWN);
+        let wanted = [&b"gh"[..], &b"uv".repeat(behind)].concat();
+        assert_eq!((plain.of(SERVER), plain.of(CLIENT)), (b"ef".to_vec(), wanted), "{before} {behind}");
+    }
 }
 
 /// A side of which nothing was read before is known by its connection.
@@ -339,7 +371,7 @@ fn keys_that_come_later() {
     let records: Vec<_> = (0..70).map(|_| server.data(&text(16000))).collect();
     for (before, wanted) in [(60, None), (70, Some(Reason::NoKey))] {
         let mut shared = Shared { more_keys: true, ..Shared::default() };
-        let (mut plain, mut connection) = (Plain::default(), Connection::from_middle(0, &shared));
+        let (mut plain, mut connection) = (Plain::default(), TlsConnection::from_middle(0, &shared));
         for (packet, record) in records[..before].iter().enumerate() {
             let arrival = Arrival { packet: packet as u64, nanos: 0 };
             let offset = (packet * record.len()) as u32;
