@@ -10,12 +10,13 @@
     pool      the workers of this machine; worker is what each of them does
     cluster   the workers of a scheduler of dask by its address
     workers   which of both, and whether there is one
-    course    which task comes next: tries, parts, Ctrl-C
+    dispatch  which task comes next: tries, parts, Ctrl-C
     rows      the rows of the tables, as h2audit-any and h2audit-why write them
     verdicts  how many captures have which verdict, and in which words
     database  the one writer; schema.sql is the schema
     collect   reports that were made without this program
     progress  the line that tells how far it is
+    watch     captures as a ring buffer closes them; its parts are rings, stretch, carrying, watched and metrics
 
 The modules that a worker of dask needs are sent to it with each task, and import nothing but the standard library:
 programs, sniff, tasks and large. So a worker needs h2audit and python3-distributed alone.

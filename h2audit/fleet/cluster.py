@@ -89,7 +89,7 @@ class Quiet(distributed.WorkerPlugin):  # type: ignore[misc]  # dask says no typ
 def settle() -> None:
     """What dask is to do and not to do, in this process and in the workers that it starts.
 
-    When a worker is lost dask says so of each task that it had, and tries none again: that is for `course` to judge.
+    When a worker is lost dask says so of each task that it had, and tries none again: that is for `dispatch` to judge.
     """
     warnings.simplefilter("ignore")
     logging.disable(logging.CRITICAL)

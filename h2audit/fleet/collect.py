@@ -19,7 +19,7 @@ from pathlib import Path
 from typing import IO
 
 from h2audit.fleet import programs, tasks
-from h2audit.fleet.tasks import Answer
+from h2audit.fleet.tasks import TaskAnswer
 
 # timeout(1) ends with this status; a shell has those of signals above 128.
 TIME_IS_UP, SIGNALS = 124, 128
@@ -31,20 +31,20 @@ def jobs_in(folder: str) -> list[Path]:
     return sorted(Path(folder).glob("*.path"))
 
 
-def read_job(named: Path, version: str) -> tuple[bytes, Answer] | None:
+def read_job(named: Path, version: str) -> tuple[bytes, TaskAnswer] | None:
     """A capture's path with its answer; nothing where the job did not come to its end."""
     status = re.fullmatch(r"(\d{1,3}) (\d{1,12}(?:\.\d{1,9})?)\s*", text_of(named.with_suffix(".status")))
     path = head_of(named)
     if not status or not path:
         return None
-    answer: Answer = {"program": tasks.IMPORT, "version": version, "options": "collected", "tries": 1}
-    answer |= {"seconds": float(status[2])} | file_of(named) | tasks.verdict(run_of(int(status[1]), named))
+    answer = TaskAnswer(program=tasks.IMPORT, version=version, options="collected", tries=1, seconds=float(status[2]))
+    answer |= file_of(named) | tasks.verdict(run_of(int(status[1]), named))
     if answer["outcome"] == "audited":
         answer |= report_of(named)
     return os.path.abspath(path), answer
 
 
-def report_of(named: Path) -> Answer:
+def report_of(named: Path) -> TaskAnswer:
     """The report of a job and its rows, which it may have lost since."""
     try:
         with part_of(named, ".report") as report, part_of(named, ".rows") as rows:
@@ -64,10 +64,10 @@ def run_of(status: int, named: Path) -> programs.Run:
     return programs.Run(SIGNALS - status if status > SIGNALS else status, said, 0, status == TIME_IS_UP)
 
 
-def file_of(named: Path) -> Answer:
-    answer: Answer = {}
+def file_of(named: Path) -> TaskAnswer:
+    answer = TaskAnswer()
     if found := re.fullmatch(r"(\d{1,18}) (\d{1,10})\.(\d{9})\s*", text_of(named.with_suffix(".file"))):
-        answer |= {"size": int(found[1]), "modified": tasks.nearest_time(int(found[2] + found[3]))}
+        answer |= TaskAnswer(size=int(found[1]), modified=tasks.nearest_time(int(found[2] + found[3])))
     if found := re.match(r"([0-9a-f]{64})\b", text_of(named.with_suffix(".sha256"))):
         answer["sha256"] = found[1]
     return answer
@@ -85,6 +85,6 @@ def text_of(name: Path) -> str:
     return head_of(name).decode(errors="replace")
 
 
-def answers_in(folder: str, version: str) -> Iterator[tuple[bytes, Answer] | None]:
+def answers_in(folder: str, version: str) -> Iterator[tuple[bytes, TaskAnswer] | None]:
     for named in jobs_in(folder):
         yield read_job(named, version)

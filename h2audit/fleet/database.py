@@ -14,21 +14,19 @@ import tempfile
 from collections.abc import Iterable, Iterator
 from contextlib import contextmanager, suppress
 from pathlib import Path
-from typing import Any
+from typing import NamedTuple
 
 from h2audit.fleet import names
 from h2audit.fleet.rows import CAPTURES, HTTP2, REQUESTS, BadRows, Row, Rows, unpacked
-from h2audit.fleet.tasks import NAMED, UNNAMED
+from h2audit.fleet.tasks import NAMED, TOLD, UNNAMED, TaskAnswer
 from h2audit.fleet.verdicts import Verdicts
 
 SCHEMA = Path(__file__).with_name("schema.sql")
 # A kind of finding and who broke the rule, in the first two columns.
 KINDS = Path(__file__).parents[1] / "report" / "kinds.txt"
-SCHEMA_VERSION = 3
+SCHEMA_VERSION = 5
 APPLICATION = 1748123206
-# Those that h2audit-why tells of, and those of reports.
-TOLD = (REQUESTS, "directions", "certainty", "reasons")
-TABLES = (*TOLD, "passed_over", "unopened", "findings", "stalls", "connections")
+TABLES = (*TOLD, "passed_over", "unopened", "findings", "stalls", "windows", "connections")
 # What of a request is entered where names are asked for alone.
 OF_NAMES = ("name", "method", "request_path", "authority", "status", "grpc_status")
 HEADS = ("records", "segments", "snapped", "not_ipv4", "fragments", "not_tcp", "refused")
@@ -58,6 +56,26 @@ VERDICTS = f"""
            COUNT(*)
     FROM named CROSS JOIN captures USING (path)
     GROUP BY outcome, status, has_http2"""
+
+
+# A row of captures by the names of its columns.
+CaptureRow = dict[str, object]
+
+
+class Entered(NamedTuple):
+    """What was entered of a capture."""
+
+    outcome: str
+    status: int | None
+    has_http2: bool
+
+
+class Standing(NamedTuple):
+    """What stands for a capture: what became of it, and what a change of it would change."""
+
+    outcome: str
+    reason: object  # others may have written bytes to the database
+    state: tuple[object, ...]
 
 
 class Unusable(Exception):
@@ -116,11 +134,11 @@ class Database:
         self.base.close()
         os.close(self.held)
 
-    def entered(self) -> Iterator[tuple[str, Any]]:
-        """What stands for each capture: its path, and what a change of it would change."""
+    def entered(self) -> Iterator[tuple[str, Standing]]:
+        """What stands for each capture, by its path."""
         wanted = "path, outcome, reason, size, modified, version, options"
-        for path, *more in self.base.execute(f"SELECT {wanted} FROM captures"):
-            yield path, tuple(more)
+        for path, outcome, reason, *more in self.base.execute(f"SELECT {wanted} FROM captures"):
+            yield path, Standing(outcome, reason, tuple(more))
 
     def verdicts(self, paths: Iterable[bytes]) -> Verdicts:
         """The verdicts on all of these captures that stand."""
@@ -167,14 +185,15 @@ class Database:
         self.base.execute(f"INSERT INTO {REQUESTS} SELECT * FROM unnamed")
         self.base.execute("DROP TABLE unnamed")
 
-    def enter(self, path: bytes, answer: dict[str, Any]) -> dict[str, Any]:
-        """Enters a capture with all that its report says; what was there of it goes. Answers with the row."""
-        row = {column: answer.get(column) for column in COLUMNS}
+    def enter(self, path: bytes, answer: TaskAnswer) -> Entered:
+        """Enters a capture with all that its report says; what was there of it goes."""
+        row: CaptureRow = {column: answer.get(column) for column in COLUMNS}
         row |= {"path": names.word_of(path), "entered": now()}
-        rows, packed = Rows(self.columns), answer.get("rows")
+        rows, packed, outcome = Rows(self.columns), answer.get("rows"), answer["outcome"]
         try:
-            if answer.get("report") is not None and self.reports:
-                keep(self.reports, answer["report_sha256"], answer["report"])
+            report = answer.get("report")
+            if report is not None and self.reports:
+                keep(self.reports, answer["report_sha256"], report)
             with self.transaction():
                 self.put_rows(self.put(row), rows.of(unpacked(packed)) if packed is not None else ())
                 row |= dict(zip(HEADS, rows.heads))
@@ -184,11 +203,12 @@ class Database:
         except (BadRows, sqlite3.IntegrityError, OverflowError) as why:
             # SQLite holds numbers below 2^63.
             why = BadRows("a number is too large") if isinstance(why, OverflowError) else why
-            row |= {"outcome": "failed", "reason": f"bad-report: {why}"} | dict.fromkeys((*HEADS, REQUESTS))
+            outcome = "failed"
+            row |= {"outcome": outcome, "reason": f"bad-report: {why}"} | dict.fromkeys((*HEADS, REQUESTS))
             with self.transaction():
                 self.put_rows(self.put(row), ())
             rows.http2 = 0
-        return row | {"has_http2": rows.http2 > 0}
+        return Entered(outcome, answer.get("status"), rows.http2 > 0)
 
     @contextmanager
     def transaction(self) -> Iterator[None]:
@@ -202,7 +222,7 @@ class Database:
                 self.base.execute("ROLLBACK")
             raise
 
-    def put(self, row: dict[str, Any]) -> int:
+    def put(self, row: CaptureRow) -> int:
         """The number of the capture, whose row this is now, and which has no other rows yet."""
         marks = ", ".join("?" * len(COLUMNS))
         changes = ", ".join(f"{column} = excluded.{column}" for column in COLUMNS)

@@ -8,21 +8,28 @@ import sys
 import tempfile
 from collections.abc import Iterator
 from contextlib import contextmanager
+from dataclasses import replace
 from types import FrameType
 
-from h2audit.fleet import collect, names, tasks
+from h2audit.fleet import collect, names
+from h2audit.fleet import watch as watching
 from h2audit.fleet.carrier import Client
-from h2audit.fleet.course import Capture, Course, Limits, Lost, scratch_in
 from h2audit.fleet.database import Database, Unusable
+from h2audit.fleet.dispatch import Capture, Dispatcher, Limits, Lost, scratch_in
+from h2audit.fleet.pool import Pool
 from h2audit.fleet.progress import Progress
+from h2audit.fleet.rings import Folder
 from h2audit.fleet.rows import REQUESTS
-from h2audit.fleet.tasks import NAMED, NO_REQUESTS
+from h2audit.fleet.tasks import NAMED, NO_REQUESTS, NOT_JOINED, UNNAMED, Order, TaskAnswer
 from h2audit.fleet.verdicts import FAULTS, Verdicts
-from h2audit.fleet.walk import Found, NotThere, Walk, found_in
-from h2audit.fleet.words import MEGABYTE, Asked, read_words
+from h2audit.fleet.walk import CaptureFile, NotThere, Walk, found_in
+from h2audit.fleet.watched import Watched
+from h2audit.fleet.words import MEGABYTE, STRETCH, Asked, read_words
 from h2audit.fleet.workers import NoWorkers, has_worker, version_of, workers_of
 from h2audit.report.command import IO_FAILED, MISSING, OK, REFUSED, failed, io_reason
 from h2audit.report.interrupts import SIGNALS
+from h2audit.report.progress import progress
+from h2audit.report.words import count
 
 NAME = "h2audit-fleet"
 SIGNALLED = 128
@@ -68,6 +75,8 @@ def main(words: list[str]) -> int:
     asked = read_words(words)
     with Interruption().watched() as interruption:
         try:
+            if asked.watch is not None:
+                return watched(asked, asked.watch, interruption)
             return collected(asked, interruption) if asked.collect is not None else audited(asked, interruption)
         except Ended:
             return interruption.ended("nothing was begun")
@@ -106,7 +115,7 @@ def audited(asked: Asked, interruption: Interruption) -> int:
             version = version_of(client)
             captures = missing_in(database, walk, version, options)
             limits = Limits(asked.retries + 1, scratch)
-            more = {"version": version, "options": options}
+            more = TaskAnswer(version=version, options=options)
             return run(asked, client, limits, database, walk, captures, more, interruption)
     except (NoWorkers, Lost) as why:
         return interruption.ended(GOES_ON) if interruption.signal else failed(NAME, MISSING, str(why))
@@ -120,35 +129,39 @@ def run(
     limits: Limits,
     database: Database,
     walk: Walk,
-    captures: list[Found],
-    more: dict[str, str],
+    captures: list[CaptureFile],
+    more: TaskAnswer,
     interruption: Interruption,
 ) -> int:
-    progress = Progress(len(captures), sum(found.size or 0 for found in captures))
-
-    def enter(capture: Capture, answer: tasks.Answer) -> None:
-        progress.count(database.enter(capture.found.path, answer | more), capture.found.size or 0)
+    def enter(capture: Capture, answer: TaskAnswer) -> None:
+        done.count(database.enter(capture.file.path, answer | more), capture.file.size or 0)
 
     def tick() -> bool:
-        progress.show()
+        done.show()
         return not interruption.signal
 
     if asked.dashboard is not None or (asked.scheduler is not None and sys.stderr.isatty()):
         print(f"{NAME}: dashboard at {client.dashboard_link}", file=sys.stderr)
-    order: tasks.Order = {
-        "keys": [os.path.abspath(key) for key in asked.keys],
-        "timeout": asked.timeout,
-        "split_above": asked.split_above * MEGABYTE,
-        "requests": asked.requests,
-        "reports": asked.reports is not None,
-    }
-    course = Course(client, order, limits, enter)
-    is_whole = course.run(captures, tick)
-    progress.clear()
+    dispatcher = Dispatcher(client, order_of(asked), limits, enter)
+    with progress() as line:
+        done = Progress(line, len(captures), sum(found.size or 0 for found in captures))
+        is_whole = dispatcher.run(captures, tick)
     verdicts = database.verdicts(walk.captures)
     standing = len(walk.captures) - len(captures)
     print(verdicts.summary() + f"; {standing:,} were there" * bool(standing) + passed_over(walk), flush=True)
     return status_of(verdicts, walk, asked) if is_whole else interruption.ended(GOES_ON)
+
+
+def order_of(asked: Asked) -> Order:
+    return {
+        "keys": [os.path.abspath(key) for key in asked.keys],
+        "timeout": asked.timeout,
+        "split_above": asked.split_above * MEGABYTE,
+        "requests": asked.requests,
+        "legs": not asked.no_legs,
+        "joined": not asked.no_joined,
+        "reports": asked.reports is not None,
+    }
 
 
 def shared_of(asked: Asked) -> str | None:
@@ -158,7 +171,7 @@ def shared_of(asked: Asked) -> str | None:
 
 
 def passed_over(walk: Walk) -> str:
-    return f"; {walk.others:,} other files passed over" * bool(walk.others)
+    return f"; {count(walk.others, 'other file')} passed over" * bool(walk.others)
 
 
 def options_of(asked: Asked) -> str:
@@ -168,20 +181,22 @@ def options_of(asked: Asked) -> str:
         with open(key, "rb") as file:
             digest.update(hashlib.sha256(file.read()).digest())
     requests = f" {REQUESTS} {asked.requests}" * bool(asked.requests)
-    return (f"keys {digest.hexdigest()}" if asked.keys else "no keys") + requests
+    legs = " no legs" * (asked.no_legs and bool(asked.requests))
+    keys = f"keys {digest.hexdigest()}" if asked.keys else "no keys"
+    return keys + " not joined" * asked.no_joined + legs + requests
 
 
-def missing_in(database: Database, walk: Walk, version: str, options: str) -> list[Found]:
-    """The captures that do not stand in the database, failed there, also without requests that are wanted, or have
-    changed since by their size or time.
+def missing_in(database: Database, walk: Walk, version: str, options: str) -> list[CaptureFile]:
+    """The captures that do not stand in the database, failed there, also without requests that are wanted or without
+    connections that were to be joined, or have changed since by their size or time.
     """
     standing = {path: row for path, row in database.entered()}
 
-    def stands(found: Found) -> bool:
-        outcome, reason, *row = standing.get(names.word_of(found.path), ("failed", None))
-        # A database that others wrote to may have bytes for a reason.
-        has_failed = outcome == "failed" or NO_REQUESTS in str(reason)
-        return not has_failed and row == [found.size, found.modified, version, options]
+    def stands(found: CaptureFile) -> bool:
+        row = standing.get(names.word_of(found.path))
+        if row is None or row.outcome == "failed" or any(why in str(row.reason) for why in (NO_REQUESTS, NOT_JOINED)):
+            return False
+        return row.state == (found.size, found.modified, version, options)
 
     return [found for found in walk.in_order() if not stands(found)]
 
@@ -202,24 +217,60 @@ def collected(asked: Asked, interruption: Interruption) -> int:
         raise NotThere(f"{asked.collect}: not a folder")
     database = Database(asked.db, asked.resume, asked.reports)
     jobs = collect.jobs_in(asked.collect)
-    progress, unfinished, walk = Progress(len(jobs), 0), 0, Walk()
+    unfinished, walk = 0, Walk()
     if not jobs:
         walk.empty.append(f"{asked.collect}: no job is in this folder")
         failed(NAME, REFUSED, walk.empty[0])
     try:
         interruption.is_asked_for = True
-        for job in collect.answers_in(asked.collect, "unknown"):
-            if interruption.signal:
-                return interruption.ended("--collect --resume goes on")
-            if job is None:
-                unfinished += 1
-                continue
-            walk.add(job[0])
-            progress.count(database.enter(*job), 0)
-            progress.show()
-        progress.clear()
+        with progress() as line:
+            done = Progress(line, len(jobs), 0)
+            for job in collect.answers_in(asked.collect, "unknown"):
+                if interruption.signal:
+                    break
+                if job is None:
+                    unfinished += 1
+                    continue
+                walk.add(job[0])
+                done.count(database.enter(*job), 0)
+                done.show()
+        if interruption.signal:
+            return interruption.ended("--collect --resume goes on")
         verdicts = database.verdicts(walk.captures)
         print(verdicts.summary() + f"; {unfinished} did not come to their end" * bool(unfinished), flush=True)
         return REFUSED if unfinished else status_of(verdicts, walk, asked)
+    finally:
+        database.close()
+
+
+# For as long as it runs
+
+
+def watched(asked: Asked, folder: str, interruption: Interruption) -> int:
+    if not os.path.isdir(folder):
+        raise NotThere(f"{folder}: not a folder")
+    requests = asked.requests or UNNAMED
+    asked = replace(asked, requests=requests)
+    options, pool = options_of(asked), Pool(asked.jobs or len(os.sched_getaffinity(0)))
+    keep = asked.keep * MEGABYTE if asked.keep is not None else None
+    database = Watched(asked.db, asked.resume, requests == NAMED, keep)
+    try:
+        interruption.is_asked_for = True
+        if requests != NAMED:
+            database.forget_names(requests)
+        with scratch_in(shared_of(asked)) as scratch, pool as client:
+            order = order_of(asked)
+            order["scratch"] = scratch
+            more = TaskAnswer(version=version_of(client), options=options)
+            stretch = (asked.stretch or STRETCH) * MEGABYTE
+            looked_at = Folder(os.path.abspath(os.fsencode(folder)))
+            with progress() as line:
+                limits = watching.Limits(stretch, asked.retries + 1, asked.metrics)
+                watch = watching.Watch(client, database, looked_at, order, limits, more, line)
+                watch.run(lambda: bool(interruption.signal))
+        print(watch.summary(), flush=True)
+        return OK
+    except NoWorkers as why:
+        return failed(NAME, MISSING, str(why))
     finally:
         database.close()

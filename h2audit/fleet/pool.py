@@ -45,7 +45,7 @@ class Task(Future):
         self.lock = threading.Lock()
 
     def result(self, timeout: float) -> Any:
-        """What it answers. The course asks once it is done."""
+        """What it answers. The dispatcher asks once it is done."""
         if self.status == WAITS:
             raise TimeoutError
         if self.error:
@@ -163,7 +163,7 @@ class Pool(Client):
             try:
                 worker = worker or self.begun()
                 worker.do(task)
-            except Exception as why:  # whatever it is, the course has to hear of it
+            except Exception as why:  # whatever it is, the dispatcher has to hear of it
                 if worker:
                     self.end(worker)
                 worker = None

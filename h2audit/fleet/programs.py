@@ -1,4 +1,4 @@
-"""One run of a program over a capture, which is handed to it as an open file, while a digest of its bytes is taken.
+"""One run of a program over captures, which are handed to it as open files, while a digest of their bytes is taken.
 
 So no name of a file reaches the program.
 
@@ -55,18 +55,23 @@ def is_there(program: str) -> bool:
 
 
 def run(
-    words: Sequence[str], output: IO[bytes], seconds: float, capture: int | None = None, source: IO[bytes] | None = None
+    words: Sequence[str],
+    output: IO[bytes],
+    seconds: float,
+    captures: Sequence[int] = (),
+    source: IO[bytes] | None = None,
 ) -> Run:
     """Runs a program for so many seconds at most.
 
-    It may have a file as its standard input, and is handed an open capture, whose digest is taken meanwhile.
+    It may have a file as its standard input, and is handed open captures, of whose bytes, one capture behind the other,
+    a digest is taken meanwhile.
     """
     if not is_there(words[0]):
         raise NoProgram(words[0])
     begin = time.monotonic()
-    with tempfile.TemporaryFile() as said, child_of(words, source, capture, output, said) as child:
+    with tempfile.TemporaryFile() as said, child_of(words, source, captures, output, said) as child:
         with time_limit(child, seconds) as is_late:
-            size, digest = digest_of(capture, is_late) if capture is not None else (0, "")
+            size, digest = digest_of(captures, is_late) if captures else (0, "")
             status = child.wait()
         return Run(status, last_line(said), time.monotonic() - begin, is_late.is_set(), size, digest)
 
@@ -78,7 +83,7 @@ def tied() -> list[str]:
 
 @contextmanager
 def child_of(
-    words: Sequence[str], source: IO[bytes] | None, capture: int | None, output: IO[bytes], said: IO[bytes]
+    words: Sequence[str], source: IO[bytes] | None, captures: Sequence[int], output: IO[bytes], said: IO[bytes]
 ) -> Iterator[subprocess.Popen[bytes]]:
     """A child in a session of its own, which keys of the terminal do not reach. It is tied to its worker."""
     child = subprocess.Popen(
@@ -86,7 +91,7 @@ def child_of(
         stdin=source or subprocess.DEVNULL,
         stdout=output,
         stderr=said,
-        pass_fds=() if capture is None else (capture,),
+        pass_fds=captures,
         start_new_session=True,
     )
     try:
@@ -120,12 +125,15 @@ def end_group(child: subprocess.Popen[bytes]) -> None:
             os.killpg(child.pid, signal.SIGKILL)
 
 
-def digest_of(source: int, is_late: threading.Event) -> tuple[int, str]:
-    """The number and the digest of a file's bytes, which a program reads at its own place; none when time is up."""
+def digest_of(sources: Sequence[int], is_late: threading.Event) -> tuple[int, str]:
+    """The number and the digest of files' bytes, which a program reads at its own places; none when time is up."""
     digest, size, room = hashlib.sha256(), 0, bytearray(IN_CACHE)
-    while not is_late.is_set() and (length := os.preadv(source, [room], size)):
-        digest.update(memoryview(room)[:length])
-        size += length
+    for source in sources:
+        at = 0
+        while not is_late.is_set() and (length := os.preadv(source, [room], at)):
+            digest.update(memoryview(room)[:length])
+            at += length
+        size += at
     return (0, "") if is_late.is_set() else (size, digest.hexdigest())
 
 

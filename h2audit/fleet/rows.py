@@ -13,7 +13,7 @@ from typing import BinaryIO
 Row = tuple[str, tuple[object, ...]]
 BITS_OF_PACKED, PIECE = 15, 1 << 16
 # The first line, and the most bytes of another.
-FIRST_ROW, LONGEST_ROW = b"h2audit-rows 1\n", 1 << 20
+FIRST_ROW, LONGEST_ROW = b"h2audit-rows 3\n", 1 << 20
 # What is counted: requests, and connections that were audited. The heads of a capture go into its own row.
 CAPTURES, CONNECTIONS, REQUESTS, HTTP2 = "captures", "connections", "requests", "http2"
 HOLDS = 4

@@ -1,11 +1,7 @@
 """What a worker does with a capture: one program imports and audits it, and gives its report and its rows.
 
-That is h2audit-any, or h2audit-why where requests are wanted. `large` has the tasks of large captures.
-
-Each task answers with a dictionary of plain values, also where it fails. An answer that is the last of a capture has an
-`outcome`: `audited`, `partial` (a part of a large capture was refused, or its requests could not be told), `refused`
-(the capture cannot be audited, and never will be) or `failed` (it might be another time), with a `reason`. Others are
-`import` (it has to be imported first), `imported` and `split`.
+That is h2audit-any, or h2audit-why where requests are wanted, and where a connection began before the capture: it joins
+that. `large` has the tasks of large captures.
 
 A worker needs this module, which is sent to it: it imports the standard library, and what is sent beside it.
 """
@@ -17,12 +13,10 @@ import stat
 import subprocess
 import tempfile
 import time
-from collections.abc import Callable
-from typing import IO, Any, NotRequired, TypedDict
+from collections.abc import Callable, Sequence
+from typing import IO, NotRequired, TypedDict
 
 from h2audit.fleet import programs, sniff
-
-Answer = dict[str, Any]
 
 AUDIT, IMPORT, SPLIT, MERGE = "h2audit", "h2audit-any", "h2audit-split", "h2audit-merge"
 # An import that stands for a while; and what tells of requests.
@@ -40,12 +34,22 @@ VERSION_SECONDS = 60
 # How requests are entered, and what a reason begins with where they could not be told.
 NAMED, UNNAMED = "named", "unnamed"
 NO_REQUESTS = "no requests: "
+# What a reason begins with where connections that began before the capture could not be joined.
+NOT_JOINED = "not joined: "
+# What h2audit-any says of a connection: what it holds, and the gaps of both sides.
+CONNECTION = re.compile(
+    rb'\["connections",\d+,"[^"]*","[^"]*",\d+,"([^"]*)",[^,]*,[^,]*,(\d+|null),[^,]*,[^,]*,[^,]*,(\d+|null),'
+)
+# The tables that h2audit-why tells beside those of reports, and how a row of them begins.
+TOLD = ("requests", "directions", "certainty", "reasons", "leg_times", "brakes", "legs", "hops")
+OF_REQUESTS = tuple(f'["{table}",'.encode() for table in TOLD)
 
 
 class Order(TypedDict):
     """How captures are to be audited: files of keys, seconds for each run of a program, above how many bytes a capture
     is split, 0 for none, in which folder files may stand that the end of the run takes away, how requests are entered,
-    and whether reports are kept.
+    whether both legs of a proxy are with them, whether connections that began before the capture are joined, and
+    whether reports are kept.
     """
 
     keys: list[str]
@@ -53,7 +57,49 @@ class Order(TypedDict):
     split_above: int
     scratch: NotRequired[str | None]
     requests: NotRequired[str | None]
+    legs: NotRequired[bool]
+    joined: NotRequired[bool]
     reports: NotRequired[bool]
+
+
+class TaskAnswer(TypedDict, total=False):
+    """What a task answers, also where it fails: plain values, of which it has those that it knows."""
+
+    # Of the last answer of a capture: audited, partial (a part of a large capture was refused, or its requests could
+    # not be told, or a connection of it that may be joined was not), refused (the capture cannot be audited, and never
+    # will be) or failed (it might be another time); of others import (it has to be imported first), imported, split.
+    outcome: str
+    reason: str | None
+    # Whether a partial one may be whole another time.
+    is_worth_a_try: bool
+    # The program that gave the report, its status, and where and for how long it ran.
+    program: str | None
+    status: int | None
+    worker: str
+    seconds: float
+    # The capture's bytes, the time of its last change, and their digest.
+    size: int | None
+    modified: int | None
+    sha256: str
+    # A report, compressed and only if it is kept, its digest and length; its rows, likewise compressed.
+    report: bytes | None
+    report_sha256: str
+    report_bytes: int
+    rows: bytes
+    has_requests: bool
+    may_be_joined: bool
+    # What an import made, its bytes and its map; the folder of a split, and its parts that stand.
+    made: str
+    made_size: int
+    map: str
+    folder: str
+    standing: list[int]
+    # Of a stretch the place of the file that is another by now.
+    lost: int
+    # What is known of all captures of a run, and how often this one was tried.
+    version: str
+    options: str
+    tries: int
 
 
 class Unread(Exception):
@@ -73,20 +119,21 @@ def opened(path: bytes) -> int:
     return file
 
 
-def on_capture(path: bytes, work: Callable[[int, Answer], Answer]) -> Answer:
+def on_capture(path: bytes, work: Callable[[int], TaskAnswer]) -> TaskAnswer:
     """What some work answers of an open capture, beside its size and the time of its last change."""
     begin = time.monotonic()
-    answer: Answer = {"outcome": "failed", "reason": None, "status": None, "program": None, "worker": worker_name()}
+    answer = TaskAnswer(outcome="failed", reason=None, status=None, program=None, worker=worker_name())
     try:
         file = opened(path)
         try:
-            answer |= dict(zip(("size", "modified"), state_of(file)))
-            answer |= work(file, answer)
+            size, modified = state_of(file)
+            answer |= TaskAnswer(size=size, modified=modified)
+            answer |= work(file)
         finally:
             os.close(file)
     except (Unread, programs.NoProgram, OSError) as why:
         answer["reason"] = named(why)
-    return answer | {"seconds": time.monotonic() - begin}
+    return answer | TaskAnswer(seconds=time.monotonic() - begin)
 
 
 def named(why: Exception) -> str:
@@ -102,27 +149,44 @@ def worker_name() -> str:
     return f"{os.uname().nodename}:{os.getpid()}"
 
 
-def audit(path: bytes, order: Order) -> Answer:
+def audit(path: bytes, order: Order) -> TaskAnswer:
     """The audit of one capture; or says that it is, or may be, a large one that has to be imported first."""
-    return on_capture(path, lambda file, _: audit_file(file, order))
+    return on_capture(path, lambda file: audit_file(file, order))
 
 
-def audit_all(paths: list[bytes], order: Order) -> list[Answer]:
+def audit_all(paths: list[bytes], order: Order) -> list[TaskAnswer]:
     """The audits of several small captures, since a task costs more than each of them."""
     return [audit(path, order) for path in paths]
 
 
-def audit_file(file: int, order: Order) -> Answer:
+def audit_file(file: int, order: Order) -> TaskAnswer:
     if may_be_large(file, order):
         return {"outcome": "import"}
-    answer = while_unchanged(file, lambda _: told(words_of(order), order, file))
+    answer = while_unchanged(file, lambda _: told(words_of(order), order, [file]))
     if answer["reason"] == TOO_LARGE and order["split_above"]:
         # What an import made may be too large for h2audit.
         return {"outcome": "import"}
     if are_requests_wanted(order) and answer["outcome"] == "failed" and answer["reason"] != CHANGED:
-        report = while_unchanged(file, lambda _: told(words_of_report(order), order, file))
+        report = while_unchanged(file, lambda _: told(words_of_report(order), order, [file]))
         return report | without_requests(answer) if report["outcome"] == "audited" else report
-    return answer
+    return with_joined(file, answer, order)
+
+
+def with_joined(file: int, answer: TaskAnswer, order: Order) -> TaskAnswer:
+    """An answer with the connections that began before the capture, where it has some that may be joined: h2audit-why
+    tells of the whole capture.
+    """
+    if not answer.pop("may_be_joined", False) or answer["outcome"] != "audited":
+        return answer
+    try:
+        joined = while_unchanged(file, lambda _: told(words_of_requests(order), order, [file]))
+    except programs.NoProgram as why:
+        joined = {"outcome": "refused", "reason": named(why)}
+    if joined["outcome"] == "audited" or joined["reason"] == CHANGED:
+        return joined
+    is_worth_a_try = joined["outcome"] == "failed"
+    reason = f"{NOT_JOINED}{joined['reason']}"
+    return answer | TaskAnswer(outcome="partial", reason=reason, is_worth_a_try=is_worth_a_try)
 
 
 def are_requests_wanted(order: Order) -> bool:
@@ -152,15 +216,17 @@ def words_of_report(order: Order) -> list[str]:
 
 
 def words_of_requests(order: Order) -> list[str]:
-    unnamed = ["--no-requests"] * (order.get("requests") == UNNAMED)
-    return [WHY, *words_of_keys(order), *unnamed, "--workers", "1", "--report", "-"]
+    unnamed = ["--no-requests"] * (order.get("requests") != NAMED)
+    unjoined = ["--no-joined"] * (not order.get("joined"))
+    no_legs = ["--no-legs"] * (not (are_requests_wanted(order) and order.get("legs")))
+    return [WHY, *words_of_keys(order), *unnamed, *unjoined, *no_legs, "--workers", "1", "--report", "-"]
 
 
 def words_of_keys(order: Order) -> list[str]:
     return [word for key in order["keys"] for word in ("-k", key)]
 
 
-def while_unchanged(file: int, work: Callable[[str], Answer]) -> Answer:
+def while_unchanged(file: int, work: Callable[[str], TaskAnswer]) -> TaskAnswer:
     """What an import answers. It may read the capture twice, for keys in it, so it has the open file by a name.
 
     Where the capture is written to meanwhile nobody can say what was audited.
@@ -169,7 +235,8 @@ def while_unchanged(file: int, work: Callable[[str], Answer]) -> Answer:
     answer = work(name)
     if state_of(file) != before:
         return {"outcome": "failed", "status": None, "program": IMPORT, "reason": CHANGED}
-    return answer | {"reason": answer["reason"].removesuffix(f": {name}") if answer["reason"] else None}
+    reason = answer["reason"]
+    return answer | TaskAnswer(reason=reason.removesuffix(f": {name}") if reason else None)
 
 
 def name_of(file: int) -> str:
@@ -188,43 +255,70 @@ def nearest_time(nanos: int) -> int:
     return max(FIRST_TIME, min(nanos, LAST_TIME))
 
 
-def told(words: list[str], order: Order, capture: int | None = None, source: IO[bytes] | None = None) -> Answer:
-    """What a program answers that prints a report, of a capture or of what it reads, and writes its rows."""
-    names = [] if capture is None else [name_of(capture)]
+def told(words: list[str], order: Order, captures: Sequence[int] = (), source: IO[bytes] | None = None) -> TaskAnswer:
+    """What a program answers that prints a report, of captures or of what it reads, and writes its rows."""
+    names = [name_of(capture) for capture in captures]
     with tempfile.TemporaryDirectory(prefix="h2audit-fleet-", dir=order.get("scratch")) as folder:
         rows = os.path.join(folder, "rows")
         with tempfile.TemporaryFile() as report:
-            answer = run_on([*words, "--rows", rows, *names], report, order, capture, source)
+            answer = run_on([*words, "--rows", rows, *names], report, order, captures, source)
             if answer["outcome"] == "audited" and not os.path.exists(rows):
-                answer |= {"outcome": "failed", "status": None, "reason": "bad-report: no rows were written"}
+                answer |= TaskAnswer(outcome="failed", status=None, reason="bad-report: no rows were written")
             elif answer["outcome"] == "audited":
                 with open(rows, "rb") as lines:
-                    answer |= kept(report, lines, is_kept=bool(order.get("reports")))
-                    answer["has_requests"] = words[0] == WHY
+                    answer |= rows_answer(words, report, lines, order)
             elif answer["reason"] == WRITE_FAILED:
                 answer["reason"] = no_room()
             return answer
 
 
+def rows_answer(words: list[str], report: IO[bytes], rows: IO[bytes], order: Order) -> TaskAnswer:
+    """A report and its rows on their way to the writer. Those about requests stay here where they are not wanted."""
+    has_joined = words[0] == WHY and "--no-joined" not in words
+    may_be_joined = bool(order.get("joined")) and not has_joined and has_unjoined(rows)
+    wanted = rows
+    if words[0] == WHY and not are_requests_wanted(order):
+        wanted = tempfile.TemporaryFile()
+        wanted.writelines(line for line in rows if not line.startswith(OF_REQUESTS))
+    answer = kept(report, wanted, is_kept=bool(order.get("reports")))
+    has_requests = words[0] == WHY and are_requests_wanted(order)
+    return answer | TaskAnswer(has_requests=has_requests, may_be_joined=may_be_joined)
+
+
+def has_unjoined(rows: IO[bytes]) -> bool:
+    """Whether rows of h2audit-any tell of connections that may be joined. The file is at its beginning, also then."""
+    found = any(map(is_unjoined, rows))
+    rows.seek(0)
+    return found
+
+
+def is_unjoined(row: bytes) -> bool:
+    """A pair of endpoints that opened none, one whose answer was lost, or one of which bytes are missing."""
+    opened = CONNECTION.match(row)
+    if opened is None:
+        return row.startswith(b'["unopened",')
+    return opened[1] == b"no-handshake" or opened[2] != b"null" or opened[3] != b"null"
+
+
 def run_on(
-    words: list[str], output: IO[bytes], order: Order, capture: int | None = None, source: IO[bytes] | None = None
-) -> Answer:
-    """What a program's end says of an open capture, or of what it reads."""
-    run = programs.run(words, output, order["timeout"], capture, source)
-    return verdict(run) | {"program": IMPORT} | bytes_of(run.size, run.digest)
+    words: list[str], output: IO[bytes], order: Order, captures: Sequence[int] = (), source: IO[bytes] | None = None
+) -> TaskAnswer:
+    """What a program's end says of open captures, or of what it reads."""
+    run = programs.run(words, output, order["timeout"], captures, source)
+    return verdict(run) | TaskAnswer(program=IMPORT) | bytes_of(run.size, run.digest)
 
 
-def bytes_of(size: int, digest: str) -> Answer:
+def bytes_of(size: int, digest: str) -> TaskAnswer:
     """What a program was given, where it was given all of a capture."""
-    return {"size": size, "sha256": digest} if digest else {}
+    return TaskAnswer(size=size, sha256=digest) if digest else TaskAnswer()
 
 
-def without_requests(untold: Answer) -> Answer:
+def without_requests(untold: TaskAnswer) -> TaskAnswer:
     """What a report is without the requests, which another try may tell."""
     return {"outcome": "partial", "reason": f"{NO_REQUESTS}{untold['reason']}", "is_worth_a_try": True}
 
 
-def verdict(run: programs.Run) -> Answer:
+def verdict(run: programs.Run) -> TaskAnswer:
     """What a run's end says of its capture. Statuses are those of h2audit."""
     if run.is_late:
         return {"outcome": "failed", "status": None, "reason": "timeout"}
@@ -235,10 +329,16 @@ def verdict(run: programs.Run) -> Answer:
     if run.status < 0:
         return {"outcome": "failed", "status": None, "reason": f"signal {-run.status}"}
     if run.status == REFUSED:
-        return {"outcome": "refused", "status": run.status, "reason": run.said.partition(" refused: ")[2] or run.said}
+        return {"outcome": "refused", "status": run.status, "reason": refusal(run.said)}
     reasons = {IO_FAILED: io_failed(run.said), NO_MEMORY: "out-of-memory"}
     reason = reasons.get(run.status, f"status {run.status}: {run.said}")
     return {"outcome": "failed", "status": run.status, "reason": reason}
+
+
+def refusal(said: str) -> str:
+    """Why a capture or a part is refused. Behind the name of a capture's refusal stand the file, and what helps."""
+    what, _, why = said.partition(" refused: ")
+    return why.partition(": ")[0] if what.endswith("capture") else why or said
 
 
 def nothing_read(said: str) -> str | None:
@@ -258,7 +358,7 @@ def no_room() -> str:
     return f"no-room {tempfile.gettempdir()}"
 
 
-def kept(report: IO[bytes], rows: IO[bytes], is_kept: bool) -> Answer:
+def kept(report: IO[bytes], rows: IO[bytes], is_kept: bool) -> TaskAnswer:
     """A report and its rows on their way to the writer; the text of the report goes there if it is kept."""
     text = programs.text_of(report)
     return {

@@ -2,6 +2,8 @@
 
 from dataclasses import dataclass
 
+from h2audit.report.words import count
+
 FAULTS = 1
 
 
@@ -38,4 +40,4 @@ class Verdicts:
         return ", ".join([f"{self.faults:,} with faults", nothing] + [f"{self.partial:,} in part"] * bool(self.partial))
 
     def summary(self) -> str:
-        return f"{self.captures:,} captures: {self.words()}"
+        return f"{count(self.captures, 'capture')}: {self.words()}"

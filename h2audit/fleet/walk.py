@@ -21,7 +21,7 @@ class NotThere(Exception):
 
 
 @dataclass(frozen=True)
-class Found:
+class CaptureFile:
     """A capture by its absolute name, its size and the time of its last change, where it has them."""
 
     path: bytes
@@ -36,7 +36,7 @@ class Walk:
     `met` counts captures and folders each time that they are met.
     """
 
-    captures: dict[bytes, Found] = field(default_factory=dict)
+    captures: dict[bytes, CaptureFile] = field(default_factory=dict)
     others: int = 0
     met: int = 0
     empty: list[str] = field(default_factory=list)
@@ -100,11 +100,11 @@ class Walk:
         try:
             found = os.stat(path)
         except (OSError, ValueError):  # a name with a zero byte, which a job may have, is that of no file
-            self.captures[path] = Found(path, None, None)
+            self.captures[path] = CaptureFile(path, None, None)
         else:
-            self.captures[path] = Found(path, found.st_size, tasks.nearest_time(found.st_mtime_ns))
+            self.captures[path] = CaptureFile(path, found.st_size, tasks.nearest_time(found.st_mtime_ns))
 
-    def in_order(self) -> list[Found]:
+    def in_order(self) -> list[CaptureFile]:
         """The largest first, so that none is begun when the others are done."""
         return sorted(self.captures.values(), key=lambda found: (-(found.size or 0), found.path))
 

@@ -8,11 +8,12 @@ from h2audit.report.command import Words, number
 
 MEGABYTE = 1000000
 LARGEST = 2147
+STRETCH = 256
 EPILOG = """\
 A PATH is a capture, or a folder that is walked over; captures there are known by name or by first bytes.
 
 exit status:
-  0    every capture stands in the database, and none shows a fault
+  0    every capture stands in the database, and none shows a fault; with --watch a signal ended it
   1    the same, and some connection shows a fault
   2    the command line is invalid
   3    some capture was refused or failed, which its row says; all others stand. Also where a folder or a list
@@ -38,6 +39,8 @@ class Asked:
     dashboard: str | None
     keys: list[str]
     requests: str | None
+    no_legs: bool
+    no_joined: bool
     timeout: int
     retries: int
     split_above: int
@@ -47,6 +50,10 @@ class Asked:
     require_http2: bool
     lists: list[str]
     collect: str | None
+    watch: str | None
+    stretch: int | None
+    keep: int | None
+    metrics: str | None
     paths: list[str]
 
 
@@ -80,10 +87,32 @@ def parser() -> Words:
     words.add_argument(
         "--collect", metavar="DIR", help="enter the reports that h2audit-any left in DIR, and audit nothing"
     )
+    add_watch(words)
     add_audit(words)
     add_workers(words)
     words.add_version()
     return words
+
+
+def add_watch(words: Words) -> None:
+    words.add_argument(
+        "--watch", metavar="DIR", help="take the captures in DIR as a ring buffer closes them, until a signal ends it"
+    )
+    words.add_argument(
+        "--stretch",
+        metavar="MB",
+        type=number(1, LARGEST),
+        help=f"how much of a ring is audited together, and anew with each file (default: {STRETCH})",
+    )
+    words.add_argument(
+        "--keep",
+        metavar="MB",
+        type=number(1, 10**9),
+        help="keep the database below MB megabytes: the oldest captures go",
+    )
+    words.add_argument(
+        "--metrics", metavar="FILE", help="write counters for Prometheus, as a text file of its node exporter"
+    )
 
 
 def add_audit(words: Words) -> None:
@@ -102,6 +131,8 @@ def add_audit(words: Words) -> None:
         const=UNNAMED,
         help="the same without names and statuses",
     )
+    words.add_argument("--no-legs", action="store_true", help="tell nothing of both legs of a proxy with requests")
+    words.add_argument("--no-joined", action="store_true", help="leave connections alone that began before the capture")
     words.add_argument(
         "--timeout",
         metavar="SECONDS",
@@ -157,10 +188,14 @@ def read_words(words: list[str]) -> Asked:
 
 def problem_of(asked: Asked) -> str | None:
     has_tls = [word is not None for word in (asked.tls_ca, asked.tls_cert, asked.tls_key)]
+    if asked.watch is not None:
+        return problem_of_watch(asked)
+    if asked.stretch is not None or asked.keep is not None or asked.metrics is not None:
+        return "--stretch, --keep and --metrics are for --watch"
     if asked.collect is not None:
         return problem_of_collection(asked)
     if not asked.paths and not asked.lists:
-        return "a PATH, --list or --collect is needed"
+        return "a PATH, --list, --collect or --watch is needed"
     if asked.scheduler is None:
         is_for_one = any(has_tls) or asked.unencrypted
         return "--tls-ca, --tls-cert, --tls-key and --unencrypted are for a --scheduler" if is_for_one else None
@@ -169,6 +204,16 @@ def problem_of(asked: Asked) -> str | None:
     if asked.dashboard is not None:
         return "--dashboard is for workers on this machine; a scheduler has its own"
     return problem_of_scheduler(asked, has_tls)
+
+
+def problem_of_watch(asked: Asked) -> str | None:
+    if asked.paths or asked.lists or asked.collect is not None:
+        return "--watch takes no PATH, no --list and no --collect"
+    if asked.scheduler is not None or asked.dashboard is not None:
+        return "--watch has workers on this machine alone: no --scheduler and no --dashboard"
+    if asked.reports is not None or asked.require_http2:
+        return "--watch keeps no --reports, and has no --require-http2"
+    return None
 
 
 def problem_of_collection(asked: Asked) -> str | None:

@@ -2,9 +2,9 @@
 
 from multiprocessing.connection import Connection
 
-from h2audit.fleet import large, tasks
+from h2audit.fleet import large, stretch, tasks
 
-MODULES = {module.__name__: module for module in (large, tasks)}
+MODULES = {module.__name__: module for module in (large, stretch, tasks)}
 Said = tuple[object, Exception | None]
 
 
@@ -18,6 +18,6 @@ def serve(descriptor: int) -> None:
             return
         try:
             said: Said = getattr(MODULES[module], work)(*words), None
-        except Exception as why:  # whatever it is, the course has to hear of it
+        except Exception as why:  # whatever it is, the dispatcher has to hear of it
             said = None, type(why)(*why.args)
         connection.send(said)

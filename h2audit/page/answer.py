@@ -2,7 +2,7 @@
 
 from dataclasses import dataclass
 
-from h2audit.report.charts import Json
+from h2audit.report.answer_types import Answer, Connection
 from h2audit.report.words import count
 
 # So many warnings, reasons and different limits of what can be seen stand at the top.
@@ -10,14 +10,14 @@ MOST, MOST_LIMITS = 100, 8
 
 
 @dataclass
-class Answer:
-    """The document, of which the page reads what docs/WHY.md names."""
+class WhyDocument:
+    """The document, of which the page reads what docs/JSON.md names."""
 
-    document: Json
+    document: Answer
 
     @property
     def headline(self) -> str:
-        return str(self.document["summary"]["text"])
+        return self.document["summary"]["text"]
 
     @property
     def limits(self) -> list[str]:
@@ -35,8 +35,8 @@ class Answer:
         return [ended(text) for text in first_of(warnings, "warning") + limited]
 
     @property
-    def connections(self) -> list[Json]:
-        return list(self.document["connections"])
+    def connections(self) -> list[Connection]:
+        return self.document["connections"]
 
 
 def first_of(lines: list[str], what: str) -> list[str]:

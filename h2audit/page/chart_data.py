@@ -30,7 +30,7 @@ SAMPLE, DOUBT, FEW_NUMBERS = 200, 1.5, 250_000
 LINES = 500
 # What is left of too large a size is aimed at a little less.
 MARGIN = 0.95
-# Of deflate.
+# How hard deflate tries.
 LEVEL = 6
 
 
@@ -42,7 +42,7 @@ class Packed:
     points: int
     # How often the credits of these windows changed.
     changes: int
-    # Of stalls and faults, how many are marked, and how many of these share a mark.
+    # How many stalls and faults are marked, and how many of these share a mark.
     marked: int
     merged: int
     marks_in_report: int
@@ -150,7 +150,7 @@ def json_of(
         "clients": [one.client for one in openings],
         "servers": [one.server for one in openings],
         "kinds": [[kind, int(kind in by_other), int(is_doubtful)] for kind, is_doubtful in kinds],
-        # Of each window its connection, side and stream, how many points, stalls and faults follow, its longest stall.
+        # For each window its connection, side, stream, how many points, stalls and faults follow, its longest stall.
         "places": list(steps(new[places[id(window.connection)]] for window in windows)),
         "sides": [int(window.side == "server") for window in windows],
         "streams": list(steps(window.stream for window in windows)),

@@ -6,6 +6,7 @@ from importlib import resources
 
 from h2audit.page.chart_data import Packed, packed
 from h2audit.page.heads import narrow
+from h2audit.page.legs import hops_section
 from h2audit.page.library import Library
 from h2audit.page.markup import Markup, element
 from h2audit.page.model import Audit
@@ -16,7 +17,7 @@ from h2audit.page.waterfall import Waterfall, waterfall, waterfall_section
 MOST_BYTES = 4_950_000
 # How many times their least size the tables may have, the first that fits.
 ROWS = (4, 2, 1, 0.5, 0.1, 0.02)
-SCRIPTS = ("data.js", "chart.js", "filters.js", "waterfall.js", "tables.js", "main.js")
+SCRIPTS = ("data.js", "chart.js", "filters.js", "spans.js", "legs.js", "waterfall.js", "tables.js", "main.js")
 
 
 def asset(name: str) -> str:
@@ -88,6 +89,7 @@ def body(audit: Audit, title: str, charts: Packed | None, choice: Choice, reques
     sums = summary(audit, choice.notes)
     main = [
         top(audit),
+        hops_section(audit, asset_markup("whose.html")),
         # What is seen without scrolling: requests over time, where there are some.
         *([filters, requests, sums] if requests else [sums, filters]),
         left_out(choice, charts),

@@ -10,6 +10,7 @@ HEADS: dict[str, tuple[str, ...]] = {
     "asked-of-stalls": ("Whom to ask", "About", "Stalls", "Connections", "Longest", "In all, each instant once"),
     "stalls": ("How long", "Who waited", "Where", "From"),
     "requests": ("Request", "Stream", "Connection", "Status", "Life", "What held it back", "Ask", "How it ended"),
+    "whose": ("Whose", "How", "How long", "Part of its life"),
     "connections": ("Connection", "Client", "Server", "Opened in packet", "Frames", "Verdict"),
     "settings": ("Who announced it", "Initial window", "SETTINGS in packet", "Acknowledged in packet"),
     "signals": ("Who", "Sent", "Error", "Packet", "About", "Debug text"),

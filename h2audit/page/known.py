@@ -3,7 +3,8 @@
 from h2audit.page.answer import ended
 from h2audit.page.markup import Content, Markup, row, shortened
 from h2audit.page.model import Connection
-from h2audit.report.charts import Json
+from h2audit.report import answer_types
+from h2audit.report.answer_types import At, Signal
 from h2audit.report.words import count, time_of
 
 # So many rows of each table.
@@ -21,18 +22,18 @@ def known_of(one: Connection) -> list[str]:
     trip = said["round_trip"]
     facts = [
         f"TLS: {said['tls']}" * bool(said["tls"]),
-        f"Round trip {time_of(trip['nanos'])}, {SOURCES[trip['source']]}" if trip["nanos"] is not None else "",
+        f"Round trip {time_of(trip['nanos'])}, {SOURCES[trip['source'] or 'tcp']}" if trip["nanos"] is not None else "",
         f"Captured {PLACES[said['captured_at']]}" if said["captured_at"] else "",
         *[f"{count(number, 'byte')} that the {side} sent were acknowledged, and no packet has them"
           for side, number in said["uncaptured"].items() if number],
     ]  # fmt: skip
-    joined = said["joined"]["text"] if said.get("joined") else []
+    joined = said["joined"]["text"] if said["joined"] else []
     return [ended(text) for text in [*joined, *said["notes"], *facts, *said["limits"]] if text]
 
 
 def settings_table(one: Connection) -> Markup:
     """The initial windows that were announced."""
-    found = one.said.get("settings", ())
+    found = one.said["settings"] if one.said else []
     rows = [
         row(
             [
@@ -57,14 +58,14 @@ def signal_table(one: Connection) -> Markup:
     return shortened(f"How connection {one.opening.number} ended", "signals", list(map(row, cells)), whole)
 
 
-def signal_cells(signal: Json) -> list[Content]:
+def signal_cells(signal: Signal) -> list[Content]:
     is_goaway = signal["word"] == "GOAWAY"
     about = f"last stream {signal['last_stream'] or 0}" if is_goaway else f"stream {signal['stream']}"
     place = packet_of(signal["at"])
     return [f"the {signal['side']}", signal["word"], signal["code_name"], place, about, signal["debug"] or ""]
 
 
-def end_cells(said: Json) -> list[list[Content]]:
+def end_cells(said: answer_types.Connection) -> list[list[Content]]:
     """A FIN or an RST, or the capture's last packet of a connection; a GOAWAY that ended it stands above."""
     end, side = said["ended"], said["ended"]["side"]
     if not end["at"] or end["how"] not in ENDS:
@@ -76,6 +77,6 @@ def end_cells(said: Json) -> list[list[Content]]:
     return [[f"the {side}", ENDS[end["how"]], "", packet_of(end["at"]), about, ""]]
 
 
-def packet_of(at: Json) -> str:
+def packet_of(at: At) -> str:
     """Where it is, as Wireshark numbers it."""
     return f"packet {at['packet']:,}" + (f" of file {at['file']}" if at["file"] > 1 else "")

@@ -1,14 +1,17 @@
 """What the page shows of a capture or a report, gathered by connections and by their windows."""
 
+from collections.abc import Sequence
 from dataclasses import dataclass, field
 from functools import cached_property
 from typing import BinaryIO, NamedTuple
 
-from h2audit.page.answer import Answer
-from h2audit.report.charts import Finding, Json, Note, document_of_report, notes_of
+from h2audit.page.answer import WhyDocument
+from h2audit.report import answer_types
+from h2audit.report.answer_types import Answer, Asked, Charts, Fault, NotAudited, Windows
+from h2audit.report.charts import Finding, Note, document_of_report, notes_of
 
 # Frame, side, kind, stream and value of a fault.
-Told = tuple[int, str, str, int, int | None]
+FaultKey = tuple[int, str, str, int, int | None]
 
 
 class Opening(NamedTuple):
@@ -87,13 +90,13 @@ class Connection:
     stopped_at: int | None = None
     # Where the capture is known: what h2audit-why says, each fault of that by what a finding tells, and up to when each
     # open stall lasted by its side, stream and first frame.
-    said: Json = field(default_factory=dict)
-    told: dict[Told, Json] = field(default_factory=dict)
+    said: answer_types.Connection | None = None
+    told: dict[FaultKey, Fault] = field(default_factory=dict)
     open_until: dict[tuple[str, int, int], int] = field(default_factory=dict)
 
     @property
     def is_captured(self) -> bool:
-        return bool(self.said)
+        return self.said is not None
 
     @property
     def has_findings(self) -> bool:
@@ -118,7 +121,7 @@ class Connection:
         form = self.opening.form
         return "" if form == "http2" else form.removeprefix("refused ")
 
-    def fault(self, note: Note) -> Json | None:
+    def fault(self, note: Note) -> Fault | None:
         """What h2audit-why says of a fault: how certain it is, and what set its window."""
         return self.told.get(told_of(note.finding))
 
@@ -164,14 +167,14 @@ class Audit:
 
     capture: Capture
     # What was not audited: why, how much, and that in words.
-    not_audited: list[Json] = field(default_factory=list)
+    not_audited: list[NotAudited] = field(default_factory=list)
     cut: int | None = None
     unopened: int = 0
     unopened_segments: int = 0
     connections: list[Connection] = field(default_factory=list)
-    asked: list[Json] = field(default_factory=list)
+    asked: list[Asked] = field(default_factory=list)
     # What h2audit-why says of a capture.
-    answer: Answer | None = None
+    answer: WhyDocument | None = None
 
     @cached_property
     def windows(self) -> list[Window]:
@@ -201,34 +204,54 @@ def together(found: list[Others]) -> Others:
 
 def read_audit(report: BinaryIO) -> Audit:
     """What a report says."""
-    return audit_of_document(document_of_report(report))
+    return audit_of_report(document_of_report(report))
 
 
-def audit_of_document(document: Json) -> Audit:
-    """What h2audit-why shows of a capture or of a report."""
-    answer = Answer(document) if "summary" in document else None
-    files = document.get("files", ())
-    audit = Audit(Capture(**document["capture"]), document["not_audited"], answer=answer, asked=document["asked"])
-    for name, value in document.get("report", {}).items():
-        setattr(audit, name, value)
-    audit.connections = [connection_of(one, files) for one in document["connections"]]
-    return audit
+def audit_of_report(document: Windows) -> Audit:
+    """What h2audit-why shows of a report."""
+    report = document["report"]
+    connections = [
+        connection_of(one["number"], one["client"], one["server"], one["charts"], ()) for one in document["connections"]
+    ]
+    return Audit(
+        Capture(**document["capture"]), document["not_audited"], report["cut"], report["unopened"],
+        report["unopened_segments"], connections, document["asked"],
+    )  # fmt: skip
 
 
-def told_of(finding: Finding) -> Told:
+def audit_of_answer(document: Answer) -> Audit:
+    """What h2audit-why shows of a capture."""
+    connections = [answered_connection(one, document["files"]) for one in document["connections"]]
+    return Audit(
+        Capture(**document["capture"]), document["not_audited"], connections=connections, asked=document["asked"],
+        answer=WhyDocument(document),
+    )  # fmt: skip
+
+
+def told_of(finding: Finding) -> FaultKey:
     return finding.frame, finding.side, finding.kind, finding.stream, finding.value
 
 
-def connection_of(one: Json, files: list[str]) -> Connection:
-    charts = one["charts"]
-    opening = Opening(one["number"], one["client"], one["server"], charts["record"], charts["form"], charts["frames"])
+def answered_connection(one: answer_types.Connection, files: Sequence[str]) -> Connection:
+    found = connection_of(one["number"], one["client"], one["server"], one["charts"], files)
+    found.said = one
+    for fault in one["faults"]:
+        frame = fault["at"]["frame"] or 0
+        found.told[frame, fault["side"], fault["kind"], fault["stream"], fault["value"]] = fault
+    for stall in one["stalls"]:
+        if stall["end"] is None:
+            key = stall["side"], stall["stream"], stall["begin"]["frame"] or 0
+            found.open_until[key] = stall["begin"]["time"] + stall["nanos"]
+    return found
+
+
+def connection_of(number: int, client: str, server: str, charts: Charts, files: Sequence[str]) -> Connection:
+    opening = Opening(number, client, server, charts["record"], charts["form"], charts["frames"])
     found = Connection(
         opening, [Flow(**flow) for flow in charts["flows"]], notes_of(charts, files),
         start=charts["begin"], end=charts["until"], stopped_at=charts["stopped_at"],
-        others=Others(**charts["other_windows"]), said=one if "outcome" in one else {},
+        others=Others(**charts["other_windows"]),
     )  # fmt: skip
-    for fault in one.get("faults", ()):
-        found.told[fault["at"]["frame"], fault["side"], fault["kind"], fault["stream"], fault["value"]] = fault
     for window in charts["windows"]:
         found.windows[window["side"], window["stream"]] = Window(found, **window)
     for note in found.notes:
@@ -236,8 +259,4 @@ def connection_of(one: Json, files: list[str]) -> Connection:
             found.window(*note.finding.window).stalls.append(note)
         elif note.finding.is_fault:
             found.window(*note.finding.window).faults.append(note)
-    for stall in one.get("stalls", ()):
-        if stall["end"] is None:
-            key = stall["side"], stall["stream"], stall["begin"]["frame"]
-            found.open_until[key] = stall["begin"]["time"] + stall["nanos"]
     return found

@@ -13,7 +13,7 @@ def sentence(one: Connection, note: Note) -> str:
     if fault is None:
         return said
     said += f"; its window: {fault['set_by_text']}" * bool(fault["set_by_text"])
-    return f"Doubtful: {said}. {ended(fault['doubt'])}" if one.is_doubtful(note) else f"{said}. Certain."
+    return f"Doubtful: {said}. {ended(fault['doubt'] or '')}" if one.is_doubtful(note) else f"{said}. Certain."
 
 
 def blame(note: Note) -> str:

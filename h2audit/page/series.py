@@ -26,7 +26,7 @@ class Series:
 
     @property
     def stood_for(self) -> list[int]:
-        """Of each shade and each cross, for how many it stands."""
+        """For how many stalls each shade stands, and for how many faults each cross."""
         return [number for _, _, number in self.stalls] + [number for _, _, _, number in self.faults]
 
     @property

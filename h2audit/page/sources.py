@@ -3,10 +3,12 @@
 from argparse import Namespace
 from typing import BinaryIO
 
-from h2audit.page.model import Audit, audit_of_document, read_audit
+from h2audit.page.model import Audit, audit_of_answer, read_audit
 from h2audit.report.charts import document_of
 from h2audit.report.command import WRONG_WORDS, Failed, opened
+from h2audit.report.interrupts import while_waiting
 from h2audit.report.programs import program_named
+from h2audit.report.progress import progress
 
 # No fault, a fault, and nothing that could be audited: then too the page says what there was.
 AUDITED = (0, 1, 6)
@@ -35,7 +37,8 @@ def audit_of(asked: Namespace) -> Audit:
 
 def is_text(file: BinaryIO) -> bool:
     """A report is text that begins with its capture's counts; all that is text is read as one, or refused as none."""
-    begin = file.peek(LOOKED_AT)[:LOOKED_AT]  # type: ignore[attr-defined]
+    with progress() as line, while_waiting(lambda: line.tell("reading")):
+        begin = file.peek(LOOKED_AT)[:LOOKED_AT]  # type: ignore[attr-defined]
     return all(octet in b"\r\n\t" or 32 <= octet < 127 for octet in begin)
 
 
@@ -43,4 +46,4 @@ def of_captures(asked: Namespace, standard_input: BinaryIO | None) -> Audit:
     words = [word for log in asked.key_log for word in ("-k", log)]
     words += ["--sort"] * asked.sort + ["--reorder"] * asked.reorder + ["--no-requests"] * asked.no_requests
     words += ["--charts", "--h2audit", program_named("h2audit"), "--", *asked.files]
-    return audit_of_document(document_of(words, standard_input, AUDITED))
+    return audit_of_answer(document_of(words, standard_input, AUDITED))

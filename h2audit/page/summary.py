@@ -1,9 +1,10 @@
 """The top of the page: one sentence, what limits it, who broke which rule, and whom to ask."""
 
 from h2audit.page.answer import ended
+from h2audit.page.legs import hops_of
 from h2audit.page.markup import Content, Markup, element, items, row, shortened, table
 from h2audit.page.model import Audit, Connection
-from h2audit.page.top import Asked, asked, headline, limits
+from h2audit.page.top import AskedPeer, asked, headline, limits
 from h2audit.page.words import Breach, breaches, counts, endpoint, longest_stalls, waited, windows_named
 from h2audit.report.charts import Note
 from h2audit.report.words import duration
@@ -74,10 +75,11 @@ def asked_table(audit: Audit) -> Markup:
         for one in found[:MOST_ROWS]
     ]
     name = "asked" if audit.answer else "asked-of-stalls"
-    return shortened("Whom to ask about time that was lost", name, rows, len(found))
+    legs = ", as each leg of a proxy tells it alone" * bool(hops_of(audit))
+    return shortened(f"Whom to ask about time that was lost{legs}", name, rows, len(found))
 
 
-def said(one: Asked, nanos: int) -> str:
+def said(one: AskedPeer, nanos: int) -> str:
     return duration(nanos) if nanos else "no end was seen"
 
 

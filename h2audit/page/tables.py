@@ -252,8 +252,8 @@ def thinning(charts: Packed) -> Markup:
         *_, least, greatest = sums_of(windows, charts.others)
         faults, stalls = sum(len(one.faults) for one in windows), sum(len(one.waits) for one in windows)
         said.append(
-            f"{number:,} of {charts.windows:,} windows have no chart: those with the most faults have one, then "
-            "those that stood still longest, then those that were opened first. The others have "
+            f"{charts.windows - number:,} of {charts.windows:,} windows have a chart: those with the most faults, then "
+            "those that stood still longest, then those that were opened first. The rest has "
             f"{count(faults, 'fault')} and {count(stalls, 'stall')}, and credits from {least} to {greatest}. "
         )
     if said:

@@ -6,7 +6,7 @@ from typing import NamedTuple
 from h2audit.page.answer import ended, first_of
 from h2audit.page.model import Audit, Connection
 from h2audit.page.words import MOST_NAMED, breaches, doubts
-from h2audit.report.charts import Json
+from h2audit.report.answer_types import Asked
 from h2audit.report.words import OTHER_SIDE, count, time_of
 
 KINDS = {
@@ -103,7 +103,7 @@ def names(connections: list[Connection]) -> str:
     return ", ".join(said) + f", and {more:,} more" * (more > 0)
 
 
-class Asked(NamedTuple):
+class AskedPeer(NamedTuple):
     """One peer and one cause: how often it held back another, and for how long."""
 
     side: str
@@ -116,15 +116,15 @@ class Asked(NamedTuple):
     nanos: int
 
 
-def asked(audit: Audit) -> list[Asked]:
+def asked(audit: Audit) -> list[AskedPeer]:
     """Whom to ask and why, what took longest first: of a capture about requests, of a report about stalls."""
     return [
-        Asked(one["side"] or "", one["peer"] or "nobody: the path between them", why_of(audit, one), one["times"],
-              one["connections"], one["longest"], one["nanos"]) for one in audit.asked
+        AskedPeer(one["side"] or "", one["peer"] or "nobody: the path between them", why_of(audit, one), one["times"],
+                  one["connections"], one["longest"], one["nanos"]) for one in audit.asked
     ]  # fmt: skip
 
 
-def why_of(audit: Audit, one: Json) -> str:
+def why_of(audit: Audit, one: Asked) -> str:
     if audit.answer:
         return KINDS[one["kind"]] + (f": {WHY[one['why']]}" if one["why"] else "")
     return KINDS[one["kind"]] + ": no grant was seen" * (one["why"] is not None)

@@ -11,15 +11,17 @@ from dataclasses import dataclass
 from itertools import islice
 
 from h2audit.page.known import packet_of
+from h2audit.page.legs import WHO, Place, asked_of, by_legs, lines_of, packed_legs, parts_of
 from h2audit.page.markup import Content, Markup, element, markup, row, shortened
 from h2audit.page.model import Audit
-from h2audit.report.charts import Json
+from h2audit.page.spans import packed_spans
+from h2audit.report.answer_types import Connection, Direction, Ended, Fault, Request
 from h2audit.report.words import time_of
 
 MOST_BYTES = 900_000
 # Spans of a direction at most, and then so many requests.
 SPANS = (512, 64, 16, 4)
-# Of a request whose name is not known, as the answer says it.
+# What stands for a name that is not known, as in the answer.
 NAME_UNKNOWN = "(name unknown)"
 # What a direction of a request can be doing (docs/WHY.md, section 3), in the order of their colours.
 NAMES = ("waiting", "sending", "stream_stall", "connection_stall", "tcp", "others", "idle", "unseen")
@@ -28,13 +30,17 @@ HELD = ("stream_stall", "connection_stall", "tcp")
 # What ends a request by itself.
 ENDS = ("END_STREAM", "RST_STREAM")
 MARGIN = 0.9
-# Of deflate: what the highest makes 4 % smaller takes three times as long.
+BOTH_LEGS = (
+    "A request that came through a proxy has more than its own bars: below them whose each instant was, and then what "
+    "happened on the other leg."
+)
+# How hard deflate tries: the highest level makes 4 % less of it, and takes three times as long.
 LEVEL = 6
 # What stands of faults of one stream, and of one connection's window.
 MOST_MARKS = 20
 MOST_ROWS = 200
 
-Found = tuple[Json, Json]
+PlacedRequest = tuple[Connection, Request]
 
 
 @dataclass
@@ -43,7 +49,7 @@ class Waterfall:
     shown: int
     whole: int
     # The requests, those with most trouble first, each with its connection.
-    requests: list[Found]
+    requests: list[PlacedRequest]
 
 
 def waterfall(audit: Audit) -> Waterfall | None:
@@ -63,17 +69,18 @@ def waterfall(audit: Audit) -> Waterfall | None:
     while len(text) > MOST_BYTES:
         number = int(number * MARGIN * MOST_BYTES / len(text))
         text = packed(audit, ranked[:number], faults, most)
-    whole = int(audit.answer.document["summary"]["requests"])
+    whole = audit.answer.document["summary"]["requests"]
     return Waterfall(base64.b64encode(text).decode(), number, whole, ranked)
 
 
-def sizes(found: list[Found]) -> list[int]:
+def sizes(found: list[PlacedRequest]) -> list[int]:
     """How many spans of a direction there may be: all, and then fewer than there are."""
-    longest = max(len(request[side]["spans"] or ()) for _, request in found for side in ("client", "server"))
+    by_sides = max(len(one["spans"] or ()) for _, request in found for one in (request["client"], request["server"]))
+    longest = max(by_sides, *(len(parts_of(request["legs"])) for _, request in found))
     return [SPANS[0], *(most for most in SPANS[1:] if most < longest)]
 
 
-Faults = dict[tuple[int, int], list[Json]]
+Faults = dict[tuple[int, int], list[Fault]]
 
 
 def faults_of(audit: Audit) -> Faults:
@@ -86,28 +93,33 @@ def faults_of(audit: Audit) -> Faults:
     return found
 
 
-def trouble(one: Json, request: Json, faults: Faults) -> tuple[bool, bool, int, int]:
-    """Faults, then what hung, then the time for which windows or TCP held it back, then what else held it."""
-    cause = request["cause"]
-    return (
-        (one["number"], request["stream"]) not in faults, not request["hung"], -held(request), -cause["nanos"]
-    )  # fmt: skip
+def trouble(one: Connection, request: Request, faults: Faults) -> tuple[bool, bool, bool, int, int]:
+    """Faults, then what hung, then the time for which windows, TCP or someone at a proxy held it back, then what else
+    held it. What a back request of a proxy waited for is told of the front one, which is before it.
+    """
+    is_faulty = (one["number"], request["stream"]) in faults
+    is_back, asked = by_legs(request)
+    return not is_faulty, not request["hung"], is_back, -max(held(request), asked), -request["cause"]["nanos"]
 
 
-def held(request: Json) -> int:
-    return sum(int(request[side]["shares"][name]) for side in ("client", "server") for name in HELD)
+def held(request: Request) -> int:
+    return sum(one["shares"][name] for one in (request["client"], request["server"]) for name in HELD)
 
 
-def packed(audit: Audit, found: list[Found], faults: Faults, most: int) -> bytes:
+def packed(audit: Audit, found: list[PlacedRequest], faults: Faults, most: int) -> bytes:
     assert audit.answer
     used = {one["number"] for one, _ in found}
     connections = [one for one in audit.answer.connections if one["number"] in used]
     places = {one["number"]: place for place, one in enumerate(connections)}
+    ranks: dict[Place, int] = {(one["number"], request["stream"]): rank for rank, (one, request) in enumerate(found)}
     said = {
         "kinds": NAMES,
+        "whose": list(WHO),
+        "whoseWords": list(WHO.values()),
         "connections": [connection_row(one, faults) for one in connections],
         "requests": [
             request_row(places[one["number"]], one, request, faults, most, rank)
+            | {"legs": packed_legs(request, ranks, most)}
             for rank, (one, request) in enumerate(found)
         ],
     }
@@ -118,7 +130,7 @@ def packed(audit: Audit, found: list[Found], faults: Faults, most: int) -> bytes
     return zlib.compress(json.dumps(said, separators=(",", ":")).encode(), LEVEL)
 
 
-def connection_row(one: Json, faults: Faults) -> Json:
+def connection_row(one: Connection, faults: Faults) -> dict[str, object]:
     """A connection, with the stalls of its own window on both sides."""
     stalls: dict[str, list[int]] = {"client": [], "server": []}
     for stall in one["stalls"]:
@@ -130,12 +142,14 @@ def connection_row(one: Json, faults: Faults) -> Json:
     }  # fmt: skip
 
 
-def request_row(place: int, one: Json, request: Json, faults: Faults, most: int, rank: int) -> Json:
+def request_row(
+    place: int, one: Connection, request: Request, faults: Faults, most: int, rank: int
+) -> dict[str, object]:
     cause, ended = request["cause"], request["ended"]
     return {
         "of": place, "stream": request["stream"], "name": name_of(request), "status": status_of(request),
         "begin": request["opened"]["time"] - one["begin"], "nanos": request["nanos"], "rank": rank,
-        "cause": cause["kind"], "side": cause["side"], "ask": cause["ask"], "text": cause["text"],
+        "cause": cause["kind"], "side": cause["side"], "ask": asked_of(request), "text": cause["text"],
         "life": request["life"], "hung": int(request["hung"]),
         "ended": end_words(request), "how": ended["how"], "packet": packet_of(request["opened"]),
         "client": direction(request["client"], most), "server": direction(request["server"], most),
@@ -143,17 +157,17 @@ def request_row(place: int, one: Json, request: Json, faults: Faults, most: int,
     }  # fmt: skip
 
 
-def name_of(request: Json) -> str:
+def name_of(request: Request) -> str:
     """As the answer's text has it: a stream that the server opened is a push."""
-    return "pushed " * (int(request["stream"]) % 2 == 0) + str(request["name"] or NAME_UNKNOWN)
+    return "pushed " * (request["stream"] % 2 == 0) + (request["name"] or NAME_UNKNOWN)
 
 
-def status_of(request: Json) -> str:
+def status_of(request: Request) -> str:
     status = "no status" if request["status"] is None else str(request["status"])
     return status + (f" grpc {request['grpc_status_name']}" if request["grpc_status"] else "")
 
 
-def end_words(request: Json) -> str:
+def end_words(request: Request) -> str:
     """How a request ended, or that it did not."""
     ended = request["ended"]
     if request["end_unseen"]:
@@ -161,15 +175,15 @@ def end_words(request: Json) -> str:
     return by_whom(ended) if ended["how"] in ENDS or not ended["side"] else f"not ended: {what_of(ended)}"
 
 
-def by_whom(ended: Json) -> str:
+def by_whom(ended: Ended) -> str:
     return f"ended by {what_of(ended)}" if ended["side"] else "not ended: the capture ends"
 
 
-def what_of(ended: Json) -> str:
+def what_of(ended: Ended) -> str:
     return f"the {ended['side']}'s {ended['how']}" + (f" {ended['code_name']}" if ended["code_name"] else "")
 
 
-def marks(one: Json, stream: int, faults: Faults) -> list[list[object]]:
+def marks(one: Connection, stream: int, faults: Faults) -> list[list[object]]:
     """Faults by their time after the connection's SYN, their kinds, and whether they are certain."""
     found = faults.get((one["number"], stream), ())
     return [
@@ -178,25 +192,12 @@ def marks(one: Json, stream: int, faults: Faults) -> list[list[object]]:
     ]
 
 
-def direction(one: Json, most: int) -> Json:
+def direction(one: Direction, most: int) -> dict[str, object]:
     """What one side did: its spans one after the other, as durations and kinds; or shares alone."""
     if one["spans"] is None:
         spans = [number for name in NAMES for number in (one["shares"][name], KIND[name]) if one["shares"][name]]
         return {"content": one["content"], "spans": spans}
-    found = one["spans"] if len(one["spans"]) <= most else joined(one["spans"], most)
-    spans = [number for _, nanos, name in found for number in (nanos, KIND[name])]
-    return {"content": one["content"], "spans": spans}
-
-
-def joined(spans: list[list[int | str]], most: int) -> list[tuple[int, int, str]]:
-    """At most so many spans: of each stretch of several that kind which takes the most of it."""
-    length = -(-len(spans) // most)
-    found: list[tuple[int, int, str]] = []
-    for at in range(0, len(spans), max(length, 1)):
-        part = spans[at : at + length]
-        longest = max(part, key=lambda span: span[1])
-        found.append((int(part[0][0]), sum(int(span[1]) for span in part), str(longest[2])))
-    return found
+    return {"content": one["content"], "spans": packed_spans(one["spans"], most, KIND)}
 
 
 def request_table(found: Waterfall, times: float) -> Markup:
@@ -206,17 +207,18 @@ def request_table(found: Waterfall, times: float) -> Markup:
     return shortened("Requests, those with trouble first", "requests", rows, found.whole)
 
 
-def cells(one: Json, request: Json) -> list[Content]:
-    cause = request["cause"]
-    life = [element("p", request["life"], class_="life")] if request["life"] else []
+def cells(one: Connection, request: Request) -> list[Content]:
+    cause, asked = request["cause"], asked_of(request)
+    more = [*lines_of(request), request["life"]]
+    said = [element("p", line, class_="life") for line in more if line]
     return [
         name_of(request),
         str(request["stream"]),
         str(one["number"]),
         status_of(request),
         time_of(request["nanos"]),
-        element("div", [cause["text"], *life]) if life else cause["text"],
-        f"the {cause['ask']}" if cause["ask"] else "",
+        element("div", [cause["text"], *said]) if said else cause["text"],
+        f"the {asked}" if asked else "",
         end_words(request),
     ]
 
@@ -233,6 +235,7 @@ def waterfall_section(found: Waterfall, times: float, controls: Markup) -> Marku
         element("h2", "Requests", id="requests-head"),
         left_out(found),
         controls,
+        element("p", BOTH_LEGS, class_="counts") if any(request["legs"] for _, request in found.requests) else "",
         element(
             "details",
             [element("summary", "The same as a table"), request_table(found, times)],

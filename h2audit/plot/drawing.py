@@ -4,7 +4,7 @@ import warnings
 from collections.abc import Sequence
 from typing import TYPE_CHECKING, BinaryIO
 
-from h2audit.plot.windows import Connection, Place, Window
+from h2audit.plot.windows import Place, PlottedConnection, PlottedWindow
 from h2audit.report.charts import Finding
 
 if TYPE_CHECKING:  # loaded where it draws: what is wrong with words or report is said sooner, and where it is missing
@@ -16,7 +16,7 @@ LARGEST_WINDOW = 2**31 - 1
 MOST_LABELS = 6
 # The scale is logarithmic where the greatest credit is so many times the one in the middle of a window.
 MUCH_GREATER = 10
-# Of stalls.
+# The colours of stalls.
 SHADE, SHADE_EDGE = "#ffd8b0", "tab:orange"
 
 
@@ -25,7 +25,7 @@ class Axis:
 
     UNITS = (("s", 10**9), ("ms", 10**6), ("µs", 10**3), ("ns", 1))
 
-    def __init__(self, windows: list[Window], by_frame: bool) -> None:
+    def __init__(self, windows: list[PlottedWindow], by_frame: bool) -> None:
         findings = [place for window in windows for place in window.connection.places]
         times = [finding.time for finding in findings]
         self.by_frame, self.start = by_frame, min(times)
@@ -43,7 +43,7 @@ class Axis:
         return f"time in {self.unit} since {self.start // 10**9}.{self.start % 10**9:09} s"
 
 
-def draw(windows: list[Window], left_out: int, by_frame: bool, title: str = "") -> "Figure":
+def draw(windows: list[PlottedWindow], left_out: int, by_frame: bool, title: str = "") -> "Figure":
     """The picture: one panel for each window, all over the same axes, so that heights tell of each other."""
     from matplotlib.figure import Figure
 
@@ -64,7 +64,7 @@ def draw(windows: list[Window], left_out: int, by_frame: bool, title: str = "") 
     return figure
 
 
-def connection_name(one: Connection) -> str:
+def connection_name(one: PlottedConnection) -> str:
     return plain(f"connection {one.number}: client {one.client}, server {one.server}\n")
 
 
@@ -73,7 +73,7 @@ def plain(text: str) -> str:
     return text.replace("$", r"\$")
 
 
-def draw_legend(panel: "Axes", windows: list[Window]) -> None:
+def draw_legend(panel: "Axes", windows: list[PlottedWindow]) -> None:
     """Says above the first panel what shades and lines mean, of those that the picture has."""
     from matplotlib.lines import Line2D
     from matplotlib.patches import Patch
@@ -95,7 +95,7 @@ def draw_legend(panel: "Axes", windows: list[Window]) -> None:
     legend.set_gid("legend")
 
 
-def draw_window(panel: "Axes", window: Window, axis: Axis, is_wide: bool) -> None:
+def draw_window(panel: "Axes", window: PlottedWindow, axis: Axis, is_wide: bool) -> None:
     """Credit, stalls and scale of a window."""
     draw_stalls(panel, window, axis)
     draw_credit(panel, window, axis)
@@ -109,7 +109,7 @@ def draw_window(panel: "Axes", window: Window, axis: Axis, is_wide: bool) -> Non
     panel.margins(y=0.15)
 
 
-def spans_orders(windows: list[Window]) -> bool:
+def spans_orders(windows: list[PlottedWindow]) -> bool:
     """Whether credits are so far apart that small ones could not be read beside the greatest.
 
     Each window counts by the size that is in its middle, since one may have many more credits than the others.
@@ -129,13 +129,13 @@ def is_at_a_credit(fault: Finding) -> bool:
     return is_overflow(fault) or fault.kind.endswith("-overrun")
 
 
-def heights(window: Window) -> list[int]:
+def heights(window: PlottedWindow) -> list[int]:
     """The credits that are drawn."""
     faults = [fault.value for fault in window.faults if is_at_a_credit(fault) and fault.value is not None]
     return [*(point.value for point in window.credits), *faults]
 
 
-def draw_credit(panel: "Axes", window: Window, axis: Axis) -> None:
+def draw_credit(panel: "Axes", window: PlottedWindow, axis: Axis) -> None:
     """The credit as steps; what a connection's window begins with, no frame tells."""
     points = [(axis.at(finding), finding.value) for finding in window.credits]
     panel.plot(*zip(*points), linestyle="none", marker=".", markersize=4, color="tab:blue", gid=gid("credit", window))
@@ -146,7 +146,7 @@ def draw_credit(panel: "Axes", window: Window, axis: Axis) -> None:
     panel.step(*zip(*points), where="post", linewidth=1.2, color="tab:blue")
 
 
-def last_seen(window: Window) -> Place | None:
+def last_seen(window: PlottedWindow) -> Place | None:
     """The finding up to which the last credit stood; of a stream's window that is not stalled the report tells none."""
     if window.stream == 0 or (window.stalls and window.stalls[-1][1] is None):
         return window.connection.last
@@ -154,7 +154,7 @@ def last_seen(window: Window) -> Place | None:
     return end if end and end.frame > window.credits[-1].frame else None
 
 
-def draw_stalls(panel: "Axes", window: Window, axis: Axis) -> None:
+def draw_stalls(panel: "Axes", window: PlottedWindow, axis: Axis) -> None:
     """Shades the stalls; one that is open goes up to the last finding."""
     ends = [(axis.at(begin), axis.at(end or window.connection.last)) for begin, end in window.stalls]
     if ends:
@@ -169,7 +169,7 @@ def draw_stalls(panel: "Axes", window: Window, axis: Axis) -> None:
         )
 
 
-def draw_faults(panel: "Axes", window: Window, named: list[Finding], axis: Axis) -> None:
+def draw_faults(panel: "Axes", window: PlottedWindow, named: list[Finding], axis: Axis) -> None:
     """The faults of the connection as red lines, and the names of those that this panel has to tell."""
     faults = window.connection.faults
     if faults:
@@ -199,7 +199,7 @@ def draw_faults(panel: "Axes", window: Window, named: list[Finding], axis: Axis)
         )
 
 
-def label_of(fault: Finding, window: Window) -> str:
+def label_of(fault: Finding, window: PlottedWindow) -> str:
     place = f" on stream {fault.stream}" if fault.stream and fault.stream != window.stream else ""
     return f"frame {fault.frame}: {fault.kind} by the {fault.broke}{place}"
 
@@ -221,7 +221,7 @@ def draw_label(panel: "Axes", row: int, label: str, at: float, axis: Axis, name:
     )
 
 
-def gid(what: str, window: Window, *more: int | str) -> str:
+def gid(what: str, window: PlottedWindow, *more: int | str) -> str:
     """The name of a part of the picture, which an SVG keeps."""
     return "-".join(map(str, (what, window.connection.number, window.side, window.stream, *more)))
 
@@ -232,6 +232,6 @@ def save(figure: "Figure", target: BinaryIO, form: str) -> None:
 
     metadata = {"Date": None} if form == "svg" else None
     with matplotlib.rc_context({"svg.hashsalt": "h2audit", "svg.fonttype": "none"}), warnings.catch_warnings():
-        # Of letters that its font does not have; another one may show them.
+        # They are about letters that the font does not have; another font may show them.
         warnings.simplefilter("ignore")
         figure.savefig(target, format=form, metadata=metadata, dpi=120)

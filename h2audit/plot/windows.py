@@ -6,7 +6,8 @@ from dataclasses import dataclass, field
 from functools import cached_property
 from typing import BinaryIO, NamedTuple
 
-from h2audit.report.charts import Finding, Json, document_of_report, notes_of
+from h2audit.report.answer_types import Window, WindowsConnections
+from h2audit.report.charts import Finding, document_of_report, notes_of
 from h2audit.report.command import Refused
 
 Stall = tuple[Finding, Finding | None]  # its begin, and its end if it has one
@@ -24,12 +25,12 @@ Place = Point | Finding
 
 
 @dataclass
-class Connection:
+class PlottedConnection:
     number: int
     client: str
     server: str
     findings: list[Finding]
-    windows: "list[Window]" = field(default_factory=list)
+    windows: "list[PlottedWindow]" = field(default_factory=list)
     # Those of no window whose credit is told.
     other_faults: list[Finding] = field(default_factory=list)
 
@@ -52,10 +53,10 @@ class Connection:
 
 
 @dataclass
-class Window:
+class PlottedWindow:
     """What is told of one window: credits and stalls, each at its frame."""
 
-    connection: Connection
+    connection: PlottedConnection
     side: str
     stream: int
     credits: list[Point]
@@ -70,14 +71,14 @@ class Window:
         return f"{self.side}, {place}"
 
 
-def connections_of(report: BinaryIO) -> list[Connection]:
+def connections_of(report: BinaryIO) -> list[PlottedConnection]:
     """The connections of a report, each with its findings and its windows."""
     return [connection_of(one) for one in document_of_report(report)["connections"]]
 
 
-def connection_of(one: Json) -> Connection:
+def connection_of(one: WindowsConnections) -> PlottedConnection:
     notes = notes_of(one["charts"], ())
-    found = Connection(one["number"], one["client"], one["server"], [note.finding for note in notes])
+    found = PlottedConnection(one["number"], one["client"], one["server"], [note.finding for note in notes])
     windows = {(said["side"], said["stream"]): window_of(found, said) for said in one["charts"]["windows"]}
     for note in notes:
         window = windows.get(note.finding.window)
@@ -89,10 +90,10 @@ def connection_of(one: Json) -> Connection:
     return found
 
 
-def window_of(connection: Connection, said: Json) -> Window:
+def window_of(connection: PlottedConnection, said: Window) -> PlottedWindow:
     points = [Point(*point) for point in zip(said["frames"], said["times"], said["credits"])]
     before = points[0].value if points and not points[0].frame else None
-    return Window(connection, said["side"], said["stream"], list(changes(points)), before)
+    return PlottedWindow(connection, said["side"], said["stream"], list(changes(points)), before)
 
 
 def changes(points: list[Point]) -> Iterator[Point]:
@@ -104,7 +105,7 @@ def changes(points: list[Point]) -> Iterator[Point]:
         last = point.value
 
 
-def chosen(connections: list[Connection], asked: argparse.Namespace) -> tuple[list[Window], int]:
+def chosen(connections: list[PlottedConnection], asked: argparse.Namespace) -> tuple[list[PlottedWindow], int]:
     """The windows to draw, and how many others there are."""
     if asked.connection is not None:
         connections = [one for one in connections if one.number == asked.connection]
@@ -121,11 +122,11 @@ def chosen(connections: list[Connection], asked: argparse.Namespace) -> tuple[li
     return [windows[at] for at in sorted(best)], len(windows) - len(best)
 
 
-def rank(window: Window) -> tuple[bool, int]:
+def rank(window: PlottedWindow) -> tuple[bool, int]:
     """What decides where there are more windows than panels: faults, then the longest stall."""
     return not window.faults, -max((stall_nanos(window, stall) for stall in window.stalls), default=-1)
 
 
-def stall_nanos(window: Window, stall: Stall) -> int:
+def stall_nanos(window: PlottedWindow, stall: Stall) -> int:
     begin, end = stall
     return (end or window.connection.last).time - begin.time

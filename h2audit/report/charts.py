@@ -1,4 +1,4 @@
-"""What h2audit-why shows of the windows of a capture, or of a report: one document of both (docs/WHY.md, section 9)."""
+"""What h2audit-why shows of the windows of a capture, or of a report: one document of both (docs/JSON.md)."""
 
 import json
 import os
@@ -7,12 +7,13 @@ from collections.abc import Sequence
 from dataclasses import dataclass
 from typing import IO, Any, BinaryIO, NamedTuple
 
+from h2audit.report import answer_types
+from h2audit.report.answer_types import Charts, Windows
 from h2audit.report.command import BUFFER, IO_FAILED, Failed
-from h2audit.report.interrupts import Interrupted, end_by, signals_raise
+from h2audit.report.interrupts import Interrupted, end_by, signals_raise, while_waiting
 from h2audit.report.programs import program_named, running, without_name
 from h2audit.report.progress import Line, progress
 
-Json = dict[str, Any]
 WHY = "h2audit-why"
 
 
@@ -71,7 +72,7 @@ class Note:
         return nanos if self.finding.is_stall_begin else -nanos
 
 
-def notes_of(charts: Json, files: Sequence[str]) -> list[Note]:
+def notes_of(charts: Charts, files: Sequence[str]) -> list[Note]:
     """The findings of a connection, in the order of a report."""
     notes = [note_of(one, files) for one in charts["findings"]]
     for note, one in zip(notes, charts["findings"]):
@@ -80,18 +81,19 @@ def notes_of(charts: Json, files: Sequence[str]) -> list[Note]:
     return notes
 
 
-def note_of(one: Json, files: Sequence[str]) -> Note:
+def note_of(one: answer_types.Finding, files: Sequence[str]) -> Note:
     finding = Finding(one["frame"], one["time"], one["side"], one["kind"], one["stream"], one["value"], one["broke"],
                       one["section"] or "", one["text"], one["blame"])  # fmt: skip
-    return Note(one["packet"], finding, None, files[one["file"] - 1] if len(files) > 1 else "")
+    return Note(one["packet"], finding, None, files[one["file"] - 1] if one["file"] and len(files) > 1 else "")
 
 
-def document_of_report(report: BinaryIO) -> Json:
+def document_of_report(report: BinaryIO) -> Windows:
     """What a report says. It is read by h2audit-why."""
-    return document_of(["--windows", "-"], report, (0,))
+    found: Windows = document_of(["--windows", "-"], report, (0,))
+    return found
 
 
-def document_of(words: Sequence[str], source: BinaryIO | None, statuses: Sequence[int]) -> Json:
+def document_of(words: Sequence[str], source: BinaryIO | None, statuses: Sequence[int]) -> Any:
     """The document that h2audit-why prints by these words, ending with one of these statuses. A signal ends it."""
     try:
         with signals_raise(), progress() as line, tempfile.TemporaryFile() as read, tempfile.TemporaryFile() as out:
@@ -105,18 +107,22 @@ def document_of(words: Sequence[str], source: BinaryIO | None, statuses: Sequenc
 
 def copy(source: BinaryIO, to: IO[bytes], line: Line) -> None:
     size = 0
-    while octets := source.read(BUFFER):
-        size += to.write(octets)
-        line.tell(f"{size / 10**6:,.0f} MB read")
+
+    def tell() -> None:
+        line.tell("reading" + f": {size / 10**6:.1f} MB" * bool(size))
+
+    with while_waiting(tell):
+        while octets := source.read1(BUFFER):  # type: ignore[attr-defined]
+            size += to.write(octets)
+            tell()
     to.seek(0)
 
 
-def run(words: Sequence[str], source: IO[bytes], out: IO[bytes], statuses: Sequence[int], line: Line) -> Json:
+def run(words: Sequence[str], source: IO[bytes], out: IO[bytes], statuses: Sequence[int], line: Line) -> Any:
     with running(words, source, out, line) as program:
         status, said = program.end()
     if status not in statuses:
         why = without_name(said) if status >= 0 else f"{os.path.basename(words[0])}: ended by signal {-status}"
         raise Failed(status if status in (2, 3, 4, 5) else IO_FAILED, why)
     out.seek(0)
-    found: Json = json.load(out)
-    return found
+    return json.load(out)

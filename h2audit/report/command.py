@@ -6,12 +6,14 @@ import errno
 import io
 import os
 import re
+import select
+import signal
 import sys
 from collections.abc import Callable, Iterator
 from typing import IO, BinaryIO, NoReturn
 
 from h2audit.report import VERSION
-from h2audit.report.interrupts import Waiting
+from h2audit.report.interrupts import Waiting, end_by
 
 # 5 is want of memory alone, 6 that nothing could be read, and 7 that a library, a program or a worker is missing.
 OK, WRONG_WORDS, REFUSED, IO_FAILED, NO_MEMORY, MISSING = 0, 2, 3, 4, 5, 7
@@ -62,7 +64,7 @@ class Words(argparse.ArgumentParser):
             try:
                 (file or sys.stderr).write(message)
             except OSError as why:
-                raise OSError(why.errno, why.strerror, "standard output") from None
+                raise type(why)(why.errno, why.strerror, "standard output") from None
 
     def error(self, message: str) -> NoReturn:
         self.exit(WRONG_WORDS, f"{self.prog}: {printable(message)}\n")
@@ -134,7 +136,7 @@ def hold_standard_files() -> None:
 
 def run(main: Callable[[list[str]], int]) -> NoReturn:
     """Runs a program by its words, and ends with its status; help and version have one too. What it raises and does not
-    catch ends it by one line.
+    catch ends it by one line; but where nobody reads standard output any more it ends by SIGPIPE, without a word.
     """
     hold_standard_files()
     program = os.path.basename(sys.argv[0])
@@ -143,8 +145,17 @@ def run(main: Callable[[list[str]], int]) -> NoReturn:
     except SystemExit as ended:
         status = ended.code if isinstance(ended.code, int) else OK
     except (Failed, MemoryError, ModuleNotFoundError, OSError) as why:
+        if isinstance(why, BrokenPipeError) and is_unread():
+            end_by(signal.SIGPIPE)
         status = failed(program, *told(why))
     leave(status, program)
+
+
+def is_unread() -> bool:
+    """Whether standard output is a pipe that nobody reads any more, as behind `| head`."""
+    poll = select.poll()
+    poll.register(1, 0)
+    return any(what & select.POLLERR for _, what in poll.poll(0))
 
 
 def leave(status: int, program: str = "") -> NoReturn:
@@ -152,6 +163,8 @@ def leave(status: int, program: str = "") -> NoReturn:
     try:
         sys.stdout.flush()
     except OSError as why:
+        if isinstance(why, BrokenPipeError):
+            end_by(signal.SIGPIPE)
         os.dup2(os.open(os.devnull, os.O_WRONLY), 1)
         if program and status != IO_FAILED:
             failed(program, IO_FAILED, f"standard output: {why.strerror}")

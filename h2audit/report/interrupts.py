@@ -8,11 +8,14 @@ import io
 import os
 import select
 import signal
+from collections.abc import Callable, Iterator
 from contextlib import contextmanager
-from typing import Any, Iterator
+from typing import Any
 
 SIGNALS = (signal.SIGINT, signal.SIGTERM, signal.SIGHUP)
 wakes: list[int] = []  # the end to read of that pipe, while signals raise
+BETWEEN_TELLS = 500  # milliseconds
+tells: list[Callable[[], None]] = []  # what is done so often while a read waits
 
 
 class Interrupted(BaseException):
@@ -53,6 +56,16 @@ def end_by(number: int) -> None:
     os.kill(os.getpid(), number)
 
 
+@contextmanager
+def while_waiting(tell: Callable[[], None]) -> Iterator[None]:
+    """Does something again and again while a read waits."""
+    tells.append(tell)
+    try:
+        yield
+    finally:
+        tells.remove(tell)
+
+
 class Waiting(io.FileIO):
     """A file whose reads may wait, as standard input or a pipe: a signal ends them."""
 
@@ -60,7 +73,12 @@ class Waiting(io.FileIO):
         poll = select.poll()
         for one in (self.fileno(), *wakes):
             poll.register(one, select.POLLIN)
-        while all(number in wakes for number, _ in poll.poll()):
-            for one in wakes:
+        between = None if self.isatty() else BETWEEN_TELLS  # nothing is told amid what is typed
+        ready = poll.poll(between)
+        while all(number in wakes for number, _ in ready):
+            for one, _ in ready:
                 os.read(one, 512)
+            for tell in tells:
+                tell()
+            ready = poll.poll(between)
         return super().readinto(buffer)

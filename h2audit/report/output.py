@@ -12,7 +12,7 @@ from typing import BinaryIO
 from h2audit.report.interrupts import SIGNALS, Interrupted, end_by, signals_raise
 
 BUFFER = 1 << 20
-# Of the name that a file has before it is whole.
+# How the name of a file begins before it is whole.
 HIDDEN = ".h2audit-"
 
 

@@ -81,8 +81,8 @@ function list() {
   falls?.list(want);
   shown = charts.windows.filter(one => isWindowAsked(one, want));
   const rows = filterRows(want);
-  const windows = `${grouped(shown.length)} of ${grouped(charts.windows.length)} windows`;
-  field("found").textContent = `${windows}, ${grouped(rows)} finding${rows === 1 ? "" : "s"}`;
+  const windows = `${grouped(shown.length)} of ${counted(charts.windows.length, "window")}`;
+  field("found").textContent = `${windows}, ${counted(rows, "finding")}`;
   limit = AT_ONCE;
   place();
 }
@@ -96,14 +96,15 @@ function forget(place) {
   }
 }
 
+const moreWindows = rest => `Show ${Math.min(rest, MORE)} of ${counted(rest, "window")} more`;
+
 // Shows the first of the windows that were asked for, and a button for more of them.
 function place() {
   sight.disconnect();
   forget("chart-");
   const figures = shown.slice(0, limit).map(one => figureOf(one));
   const rest = shown.length - figures.length;
-  const more = rest > 0 ? [make("button", `Show ${Math.min(rest, MORE)} of ${grouped(rest)} windows more`,
-    { type: "button", id: "more", onclick: showMore })] : [];
+  const more = rest > 0 ? [make("button", moreWindows(rest), { type: "button", id: "more", onclick: showMore })] : [];
   field("windows").replaceChildren(...figures, ...more);
   figures.forEach(figure => sight.observe(figure));
 }
@@ -115,7 +116,7 @@ function showMore() {
   field("more").before(...added);
   added.forEach(figure => sight.observe(figure));
   if (rest <= MORE) field("more").remove();
-  else field("more").textContent = `Show ${Math.min(rest - MORE, MORE)} of ${grouped(rest - MORE)} windows more`;
+  else field("more").textContent = moreWindows(rest - MORE);
   added[0].focus();
 }
 

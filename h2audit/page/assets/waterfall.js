@@ -1,23 +1,17 @@
 // The waterfall: a row for each request, drawn as it comes into sight, and as high as its sentences. Its scale, axis and
 // zoom are those of the curve above it, which dygraphs draws.
 
-const AHEAD = 6, MOST_POINTS = 1500, PRINTED_ROWS = 40, NARROW = 700;
-const SVG = "http://www.w3.org/2000/svg";
+const AHEAD = 6, MOST_POINTS = 1500, PRINTED_ROWS = 40, NARROW = 700, LANES_WIDE = 50;
 
 let falls = null;
-
-function svg(name, more, parent) {
-  const made = document.createElementNS(SVG, name);
-  for (const [key, value] of Object.entries(more)) made.setAttribute(key, value);
-  parent?.append(made);
-  return made;
-}
 
 class Waterfall {
   constructor(said) {
     const requests = said.requests.map(one => ({ ...one, connection: said.connections[one.of] }));
     const connections = said.connections.map(one => ({ ...one, isConnection: true, connection: one }));
-    Object.assign(this, { kinds: said.kinds, requests, connections, listed: [], tops: [0], chosen: 0, made: new Map() });
+    Object.assign(this, { kinds: said.kinds, whose: said.whose, requests, connections, listed: [], tops: [0], chosen: 0,
+      made: new Map(), whoseWords: said.whoseWords });
+    offerWhose(requests);
     this.box = field("rows");
     this.space = field("space");
     this.box.addEventListener("scroll", () => this.later());
@@ -178,14 +172,19 @@ class Waterfall {
   // A row without its bars: what it is called, the place of the bars, and what is said of it, which its button's name
   // says too.
   words(one, area) {
+    const isBoth = hasLegs(one), high = heightOf(one, this.requests);
     const row = make("div", "", { className: one.isConnection ? "row connection-row" : "row" });
     const button = make("button", "", { type: "button" });
-    button.style.width = this.isNarrow ? "100%" : `${area.x - 6}px`;
+    button.style.width = this.isNarrow ? "100%" : `${area.x - (isBoth ? LANES_WIDE : 6)}px`;
     const facts = make("span", factsOf(one, "\u00a0"), { className: "facts" });
     button.append(make("span", titleOf(one), { className: "title" }), facts);
     row.append(button);
-    const drawing = svg("svg", { width: Math.max(area.w, 1), height: 26, "aria-hidden": "true" }, row);
-    drawing.style[this.isNarrow ? "marginLeft" : "left"] = `${area.x}px`;
+    const lanes = make("div", "", { className: "drawn" });
+    lanes.style[this.isNarrow ? "marginLeft" : "left"] = `${area.x}px`;
+    if (isBoth) lanes.append(lanesOf(one));
+    svg("svg", { width: Math.max(area.w, 1), height: high, "aria-hidden": "true" }, lanes);
+    row.append(lanes);
+    if (isBoth && !this.isNarrow) row.prepend(roomOf(high));
     for (const text of sentencesOf(one)) row.append(make("p", text, { ariaHidden: "true" }));
     return row;
   }
@@ -196,12 +195,9 @@ class Waterfall {
     svg("line", { class: "life", x1: x(begin), x2: end, y1: 13, y2: 13 }, drawing);
     ["client", "server"].forEach((side, lane) => {
       const spans = one.isConnection ? stallSpans(one.stalls[side]) : spansOf(one[side].spans, this.kinds);
-      for (const span of merged(spans, x, begin, area.w)) {
-        const thin = span.kind === "waiting";
-        svg("rect", { class: `bar ${span.kind}`, x: span.left, width: span.width,
-          y: lane * 13 + (thin ? 5 : 1), height: thin ? 3 : 11 }, drawing);
-      }
+      drawLane(drawing, spans, { x, begin, wide: area.w }, lane * LANE);
     });
+    if (hasLegs(one)) drawLegs(drawing, one, { ...this, x, begin, wide: area.w });
     const start = one.isConnection ? 0 : one.begin;
     for (const [nanos, , isCertain] of one.marks) cut(drawing, x(begin + nanos - start), isCertain);
     if (one.isConnection) return;
@@ -250,42 +246,6 @@ class Waterfall {
   }
 }
 
-function cut(drawing, x, isCertain) {
-  svg("path", { class: isCertain ? "mark fault" : "mark doubtful", d: `M${x - 5} 8L${x + 5} 18M${x + 5} 8L${x - 5} 18` }, drawing);
-}
-
-// Spans stand one after the other: durations and kinds.
-function spansOf(numbers, kinds) {
-  let begin = 0;
-  const found = [];
-  for (let at = 0; at < numbers.length; at += 2) {
-    found.push({ begin, end: begin + numbers[at], kind: kinds[numbers[at + 1]] });
-    begin += numbers[at];
-  }
-  return found;
-}
-
-function stallSpans(numbers) {
-  const found = [];
-  for (let at = 0; at < numbers.length; at += 2) {
-    found.push({ begin: numbers[at], end: numbers[at] + numbers[at + 1], kind: "connection_stall" });
-  }
-  return found;
-}
-
-// Only what is in sight; what is narrower than a pixel belongs to the bar before it, unless it is trouble.
-function merged(spans, x, begin, wide) {
-  const found = [];
-  for (const span of spans) {
-    const left = Math.max(x(begin + span.begin), -2), right = Math.min(x(begin + span.end), wide + 2);
-    if (right < -1 || left > wide + 1 || span.end === span.begin) continue;
-    const last = found.at(-1), isCalm = span.kind === "sending" || span.kind === "waiting";
-    if (last && right - last.left < 1 && (isCalm || last.kind === span.kind)) continue;
-    found.push({ left, width: Math.max(right - left, 1), kind: span.kind });
-  }
-  return found;
-}
-
 // How many requests are under way after each beginning and each end; of very many points some are left out.
 function underWay(requests, beginOf, end, size) {
   const steps = requests.flatMap(one => [[beginOf(one), 1], [beginOf(one) + one.nanos, -1]]);
@@ -311,8 +271,8 @@ function factsOf(one, blank = " ") {
   return words.concat(one.ask ? `ask the ${one.ask}` : []).map(fact => fact.replaceAll(" ", blank)).join(" · ");
 }
 
-// What held it back, and its whole life where that has several parts.
-const sentencesOf = one => one.isConnection ? [] : [one.text, one.life].filter(text => text);
+// What is said of both legs, what held it back, and its whole life where that has several parts.
+const sentencesOf = one => one.isConnection ? [] : [legsWords(one), one.text, one.life].filter(text => text);
 
 // Four digits are enough for a row.
 const rounded = nanos => Number(nanos.toPrecision(4));
@@ -340,7 +300,12 @@ function isRequestAsked(one, want, held) {
     && (!want.stream || String(one.stream) === want.stream)
     && (!kind || (kind === "fault" ? one.marks.length > 0
       : kind === "stall" ? isStalled(one.client) || isStalled(one.server) : one.marks.some(mark => mark[1] === kind)))
-    && (!held || (held === "hung" ? one.hung : one.cause === held));
+    && isHeldBy(one, held);
+}
+
+function isHeldBy(one, held) {
+  if (held.startsWith("who-")) return isHeldAtProxy(one, held.slice(4));
+  return !held || (held === "hung" ? one.hung : one.cause === held);
 }
 
 // Below the rows: what held a request back, its findings, and the charts of its windows.
@@ -357,7 +322,8 @@ function openRequest(one) {
   const figures = charted.map(window => figureOf(window, "request-"));
   const beside = make("div", "", { className: "beside" });
   beside.append(make("div"), make("div"));
-  beside.firstChild.append(make("p", [...words, asSentence(one.ended)].join(" ")), findingsOf(connection, stream));
+  beside.firstChild.append(make("p", [...words, asSentence(one.ended)].join(" ")), whoseTable(one, falls.whoseWords),
+    otherLegs(one), findingsOf(connection, stream));
   beside.lastChild.append(...figures);
   panel.append(head, close, beside);
   panel.hidden = false;

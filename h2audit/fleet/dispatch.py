@@ -1,4 +1,4 @@
-"""The course of a run: which task comes next, what is tried again, and when a capture is entered.
+"""The dispatch of captures to workers: which task comes next, what is tried again, and when a capture is entered.
 
 Futures say over a queue that they are done. So the one thread that enters captures waits for nothing else, and sees
 within half a second that it is to stop.
@@ -18,8 +18,8 @@ from typing import Any
 
 from h2audit.fleet import large, tasks
 from h2audit.fleet.carrier import Client, Future
-from h2audit.fleet.tasks import Answer, Order
-from h2audit.fleet.walk import Found
+from h2audit.fleet.tasks import Order, TaskAnswer
+from h2audit.fleet.walk import CaptureFile
 
 TICK_SECONDS = 0.5
 RESULT_SECONDS = 10.0
@@ -44,12 +44,12 @@ class Lost(Exception):
 class Capture:
     """A capture on its way: how often it was tried; a large one is imported first, and takes room beside itself."""
 
-    found: Found
+    file: CaptureFile
     is_large: bool = False
     tries: int = 0
     seconds: float = 0.0
     folder: str | None = None
-    divided: Answer = field(default_factory=dict)
+    divided: TaskAnswer = field(default_factory=lambda: TaskAnswer())
     waiting: set[int] = field(default_factory=set)
     part_tries: dict[int, int] = field(default_factory=dict)
     futures: set[Future] = field(default_factory=set)
@@ -57,7 +57,7 @@ class Capture:
     @property
     def size(self) -> int:
         """Its bytes; 0 where it is not there."""
-        return self.found.size or 0
+        return self.file.size or 0
 
 
 @dataclass(frozen=True)
@@ -68,11 +68,11 @@ class Limits:
     scratch: str | None
 
 
-Enter = Callable[[Capture, Answer], None]
+Enter = Callable[[Capture, TaskAnswer], None]
 Follow = Callable[[Any], None]
 
 
-class Course:
+class Dispatcher:
     """Captures on their way over the workers of a client, each entered once."""
 
     def __init__(self, client: Client, order: Order, limits: Limits, enter: Enter) -> None:
@@ -87,7 +87,7 @@ class Course:
         self.on_way = self.large = 0
         self.threads, self.last_seen, self.next_look = 0, time.monotonic(), 0.0
 
-    def run(self, captures: Iterable[Found], tick: Callable[[], bool]) -> bool:
+    def run(self, captures: Iterable[CaptureFile], tick: Callable[[], bool]) -> bool:
         """Audits all captures. Ends early, with False, where a tick says so."""
         self.waiting.extend(Capture(found, bool(tasks.parts_of(found.size, self.order))) for found in captures)
         while tick():
@@ -149,13 +149,13 @@ class Course:
             return
         for capture in captures:
             capture.tries += 1
-        paths = [capture.found.path for capture in captures]
+        paths = [capture.file.path for capture in captures]
         future = self.client.submit(tasks.audit_all, paths, self.order, priority=USUAL)
         self.fly(future, partial(self.after_all, captures))
 
     def begin(self, capture: Capture) -> None:
         capture.tries += 1
-        path = capture.found.path
+        path = capture.file.path
         if not capture.is_large:
             self.submit(capture, self.after_whole, tasks.audit, path, self.order)
             return
@@ -173,8 +173,8 @@ class Course:
     def submit(
         self,
         capture: Capture,
-        after: Callable[[Capture, Answer], None],
-        work: Callable[..., Answer],
+        after: Callable[[Capture, TaskAnswer], None],
+        work: Callable[..., TaskAnswer],
         *words: Any,
         tries: int = 1,
     ) -> None:
@@ -216,12 +216,12 @@ class Course:
 
     # What follows a task
 
-    def after_all(self, captures: list[Capture], answers: list[Answer] | Answer) -> None:
+    def after_all(self, captures: list[Capture], answers: list[TaskAnswer] | TaskAnswer) -> None:
         """Where several were lost together, each has lost its worker."""
         for place, capture in enumerate(captures):
             self.after_whole(capture, answers if isinstance(answers, dict) else answers[place])
 
-    def after_whole(self, capture: Capture, answer: Answer) -> None:
+    def after_whole(self, capture: Capture, answer: TaskAnswer) -> None:
         capture.seconds += answer.get("seconds") or 0.0
         if answer["outcome"] == "import":
             self.hold_for_import(capture)
@@ -238,7 +238,7 @@ class Course:
         capture.futures = set()
         self.held.append(capture)
 
-    def again(self, capture: Capture, answer: Answer) -> None:
+    def again(self, capture: Capture, answer: TaskAnswer) -> None:
         """Tries a capture once more.
 
         Of all tasks of a lost worker one is to blame, so each is tried alone, after all others.
@@ -251,7 +251,7 @@ class Course:
             self.on_way += 1
             self.begin(capture)
 
-    def after_import(self, capture: Capture, answer: Answer) -> None:
+    def after_import(self, capture: Capture, answer: TaskAnswer) -> None:
         """Splits what was made where that is large; else it is audited whole."""
         if answer["outcome"] != "imported":
             self.after_whole(capture, answer)
@@ -264,7 +264,7 @@ class Course:
         else:
             self.merge_when_ready(capture)
 
-    def after_split(self, capture: Capture, answer: Answer) -> None:
+    def after_split(self, capture: Capture, answer: TaskAnswer) -> None:
         if answer["outcome"] != "split":
             self.after_whole(capture, answer)
             return
@@ -282,7 +282,7 @@ class Course:
         follow = partial(self.after_part, number=number)
         self.submit(capture, follow, large.part, capture.divided["folder"], number, self.order, tries=tries)
 
-    def after_part(self, capture: Capture, answer: Answer, number: int) -> None:
+    def after_part(self, capture: Capture, answer: TaskAnswer, number: int) -> None:
         capture.seconds += answer.get("seconds") or 0.0
         if number not in capture.waiting:
             return
@@ -298,12 +298,12 @@ class Course:
 
     def merge_when_ready(self, capture: Capture) -> None:
         if not capture.waiting:
-            self.submit(capture, self.after_whole, large.merge, capture.found.path, capture.divided, self.order)
+            self.submit(capture, self.after_whole, large.merge, capture.file.path, capture.divided, self.order)
 
-    def finish(self, capture: Capture, answer: Answer) -> None:
+    def finish(self, capture: Capture, answer: TaskAnswer) -> None:
         self.release(capture)
-        answer = {"size": capture.found.size, "modified": capture.found.modified} | answer
-        self.enter(capture, answer | {"tries": capture.tries, "seconds": capture.seconds})
+        answer = TaskAnswer(size=capture.file.size, modified=capture.file.modified) | answer
+        self.enter(capture, answer | TaskAnswer(tries=capture.tries, seconds=capture.seconds))
 
     def release(self, capture: Capture) -> None:
         """Gives up what a try took: its place, the tasks that are left of it, and the room of its parts."""
@@ -314,7 +314,7 @@ class Course:
             self.client.cancel(left)
         if capture.folder:
             shutil.rmtree(capture.folder, ignore_errors=True)
-        capture.futures, capture.folder, capture.divided = set(), None, {}
+        capture.futures, capture.folder, capture.divided = set(), None, TaskAnswer()
 
 
 @contextmanager
@@ -344,7 +344,7 @@ def folder_of_parts(capture: Capture) -> str:
     return os.path.join(capture.folder, "parts")
 
 
-def is_worth_a_try(answer: Answer) -> bool:
+def is_worth_a_try(answer: TaskAnswer) -> bool:
     """Whether something failed that may go well another time: not where a file or a program is missing."""
     has_failed = answer["outcome"] == "failed" or answer.get("is_worth_a_try", False)
     return bool(has_failed) and not str(answer["reason"]).startswith(("no-program", "not-"))
