@@ -3,7 +3,7 @@
 # deps.sh installs them, as root; deps.sh --check fails with their list.
 set -euo pipefail
 
-needed=(python3-matplotlib mandoc lintian zsh fish gawk mawk original-awk tshark binutils gcc libc6-dev)
+needed=(python3-matplotlib mandoc lintian zsh fish gawk mawk original-awk tshark binutils gcc libc6-dev git)
 # Of costs.
 needed+=(valgrind)
 # Of the form and the types of Python.
@@ -21,6 +21,7 @@ needed+=(python3-distributed sqlite3 parallel iproute2)
 # Of the answer in words and its tests: real servers and clients.
 needed+=(python3-hpack python3-jsonschema python3-grpcio libxml2-utils)
 needed+=(nginx-light nghttp2-client nghttp2-server h2o caddy nodejs curl)
+needed+=(nghttp2-proxy haproxy apache2-bin)
 # So many seconds may pass until all are installed.
 patience=900
 

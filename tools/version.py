@@ -1,7 +1,8 @@
 """Writes what the file VERSION says where it stands once more: python3 -m tools.version, by `make version`.
 
 Programs in Python read VERSION; those in Rattle and in Rust cannot, or their toolchains want it elsewhere too.
-tools/tests/words_test.py fails where one of these places says something else.
+tools/tests/documents/words_test.py fails where one of these places says something else. Between releases VERSION says
+the next one with -dev.
 """
 
 import datetime
@@ -13,8 +14,10 @@ from typing import NamedTuple
 from h2audit.report import VERSION
 
 TOP = pathlib.Path(__file__).resolve().parents[1]
-# The heading of a version in CHANGELOG.md.
+DEVELOPED = "-dev"
+# The heading of a version in CHANGELOG.md that is released, and of one that is not.
 RELEASED = re.compile(r"^## (\S+) \((\d{1,2} [A-Z][a-z]+ \d{4})\)$", re.M)
+UNRELEASED = "unreleased"
 
 
 class Place(NamedTuple):
@@ -24,10 +27,11 @@ class Place(NamedTuple):
     before: str
     after: str
     wanted: str
+    begins: str = "^"  # \A for the first line of the file alone
 
     @property
     def pattern(self) -> re.Pattern[str]:
-        return re.compile(rf"(?m)(?<=^{re.escape(self.before)})[^\n]*?(?={re.escape(self.after)}$)")
+        return re.compile(rf"(?m)(?<={self.begins}{re.escape(self.before)})[^\n]*?(?={re.escape(self.after)}$)")
 
     def read(self) -> str:
         return (TOP / self.file).read_text(encoding="utf-8")
@@ -55,6 +59,12 @@ def members() -> list[str]:
     return [re.findall(r'^name = "(.*)"$', file.read_text(), re.M)[0] for file in files]
 
 
+def of_package(version: str) -> str:
+    """As Debian says it: before the version that comes, and for no distribution."""
+    number = version.removesuffix(DEVELOPED)
+    return f"{number}) stable" if number == version else f"{number}~dev) UNRELEASED"
+
+
 def places() -> list[Place]:
     constant = 'const VERSION: &str = "', '";'
     manuals = sorted(f"tools/man/{file.name}" for file in (TOP / "tools" / "man").glob("*.1"))
@@ -65,6 +75,7 @@ def places() -> list[Place]:
         Place("crates/h2audit_split/stdout", "h2audit-split ", "", VERSION),
         Place("companions/Cargo.toml", 'version = "', '"', VERSION),
         *(Place("companions/Cargo.lock", f'name = "{name}"\nversion = "', '"', VERSION) for name in members()),
+        Place("tools/package/changelog", "h2audit (", "; urgency=medium", of_package(VERSION), r"\A"),
         *(Place(manual, ".Os h2audit ", "", VERSION) for manual in manuals),
         *(Place(manual, ".Dd ", "", f"{day:%B} {day.day}, {day.year}") for manual in manuals if day),
     ]

@@ -41,7 +41,7 @@ _h2audit_plot() {
 _h2audit_comment() {
     local word=${COMP_WORDS[COMP_CWORD]}
     case $word in
-    -*) _h2audit_offer -W '--output --map --credit --help --version -o -m -h -V' -- "$word" ;;
+    -*) _h2audit_offer -W '--output --map --credit --why --key-log --h2audit --help --version -o -m -k -h -V' -- "$word" ;;
     *) _h2audit_offer -f -- "$word" ;;
     esac
 }
@@ -79,8 +79,8 @@ _h2audit_import() {
 
 _h2audit_any() {
     local word=${COMP_WORDS[COMP_CWORD]} before=${COMP_WORDS[COMP_CWORD - 1]}
-    local options='--key-log -k --jobs -j --sort --reorder --workers --groups --block --frames --parts --rows --map'
-    options+=' --h2audit --help -h --version -V'
+    local options='--key-log -k --jobs -j --sort --reorder --joined --workers --groups --block --frames --parts --rows'
+    options+=' --map --h2audit --help -h --version -V'
     [[ $before == = ]] && before=${COMP_WORDS[COMP_CWORD - 2]}
     case $before in
     --parts) _h2audit_offer -W '2 4 8 16 32 64 128 256 500' -- "$word" ;;
@@ -97,14 +97,14 @@ _h2audit_any() {
 
 _h2audit_why() {
     local word=${COMP_WORDS[COMP_CWORD]} before=${COMP_WORDS[COMP_CWORD - 1]}
-    local options='--key-log -k --sort --reorder --all --query --no-requests --json --json-lines --charts --rows --windows'
+    local options='--key-log -k --sort --reorder --all --query --no-requests --legs --no-legs --json --json-lines --charts --rows --windows'
     options+=' --color --width --h2audit --report --audit --workers --fail-on --fail-stall --fail-life --require-http2'
-    options+=' --junit --quiet --no-joined'
+    options+=' --junit --trace --quiet --no-joined'
     options+=' --compare --ends --help -h --version -V'
     [[ $word == = ]] && word=
     [[ $before == = ]] && before=${COMP_WORDS[COMP_CWORD - 2]}
     case $before in
-    --fail-on) _h2audit_offer -W 'fault certain-fault joined-fault stall hung tcp error unanswered status gap cut not-audited' -- "$word" ;;
+    --fail-on) _h2audit_offer -W 'fault certain-fault joined-fault stall hung tcp error unanswered status gap cut not-audited behind passed-on' -- "$word" ;;
     --fail-stall) _h2audit_offer -W '10ms 100ms 1s' -- "$word" ;;
     --fail-life) _h2audit_offer -W '1s 2s 10s' -- "$word" ;;
     --color) _h2audit_offer -W 'auto always never' -- "$word" ;;
@@ -122,12 +122,15 @@ _h2audit_why() {
 
 _h2audit_fleet() {
     local word=${COMP_WORDS[COMP_CWORD]} before=${COMP_WORDS[COMP_CWORD - 1]}
-    local options='--db --list --resume --require-http2 --reports --collect --keys --requests --unnamed-requests'
+    local options='--db --list --resume --require-http2 --reports --collect --watch --stretch --keep'
+    options+=' --metrics --keys --requests --unnamed-requests --no-legs --no-joined'
     options+=' --timeout --retries --split-above --scratch --jobs --dashboard --scheduler --tls-ca --tls-cert --tls-key --unencrypted --version --help'
     options+=' -k -j -V -h'
     case $before in
     --split-above) _h2audit_offer -W '0 256 512 1024' -- "$word" ;;
-    --reports | --collect | --scratch) _h2audit_offer -d -- "$word" ;;
+    --stretch) _h2audit_offer -W '64 256 1024' -- "$word" ;;
+    --keep) _h2audit_offer -W '100 500 1000' -- "$word" ;;
+    --reports | --collect | --watch | --scratch) _h2audit_offer -d -- "$word" ;;
     --timeout | --retries | --jobs | -j | --dashboard | --scheduler) COMPREPLY=() ;;
     *)
         case $word in

@@ -15,6 +15,7 @@ CAPTURES = TOP / "tests" / "tls"
 EXAMPLES = TOP / "examples"
 IMPORT, ANY = companion("h2audit-import"), companion("h2audit-any")
 CLIENT, SERVER = 0, 1
+INTERFACE, ENHANCED_PACKET = 1, 6  # blocks of pcapng
 
 Word = str | pathlib.Path  # of a command line
 
@@ -61,6 +62,23 @@ def read_pcap(data: bytes) -> tuple[list[Packet], int]:
     return packets, link
 
 
+def packets_in(path: pathlib.Path) -> tuple[list[Packet], int]:
+    """Packets of a capture of one interface, and its link type. Times of pcapng are taken to be nanoseconds."""
+    data = path.read_bytes()
+    if path.suffix == ".pcap":
+        return read_pcap(data)
+    packets, link, at = [], 0, 0
+    while at < len(data):
+        kind, length = struct.unpack_from("<II", data, at)
+        if kind == INTERFACE:
+            (link,) = struct.unpack_from("<H", data, at + 8)
+        elif kind == ENHANCED_PACKET:
+            high, low, captured, original = struct.unpack_from("<IIII", data, at + 12)
+            packets.append(Packet(high << 32 | low, data[at + 28 : at + 28 + captured], original))
+        at += length
+    return packets, link
+
+
 def pcap_of(packets: Iterable[Packet], link: int, order: str = "<", unit: int = 1) -> bytes:
     magic = 0xA1B23C4D if unit == 1 else 0xA1B2C3D4
     parts = [struct.pack(order + "IHHiIII", magic, 2, 4, 0, 0, 1 << 18, link)]
@@ -88,7 +106,7 @@ def packet_of_each_record(made: Made) -> dict[int, tuple[int, int]]:
 
 
 def payloads(made: Made, of: str = "tls") -> Iterator[tuple[int, int, bytes]]:
-    """Of each segment with payload in connections of a kind: record, side, bytes."""
+    """Each segment with payload in connections of a kind: record, side, bytes."""
     clients = set()
     rows = [line.split() for line in made.map if line.startswith("address ")]
     addresses = {address: stand_in for _, stand_in, address in rows}

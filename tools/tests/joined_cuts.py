@@ -8,9 +8,10 @@ import re
 import struct
 import subprocess
 import tempfile
-from collections.abc import Iterator
+from collections.abc import Collection, Iterator
 from typing import NamedTuple
 
+from tests.captures import BEGINNINGS, Capture
 from tools.tests.import_tools import IMPORT, Packet, Word, pcap_of, read_pcap
 from tools.tests.report_lines import Finding, Opening, Stall, read_lines
 
@@ -21,6 +22,9 @@ MODULO = 2**32
 SIDES = ("client", "server")
 Ends = tuple[str, str]  # sender and receiver
 DATA, SETTINGS = 0, 4
+# The fields of a request.
+GET = b"\x82\x84\x87"
+SECOND = 10**9
 
 
 class Segment(NamedTuple):
@@ -40,8 +44,21 @@ class Frame(NamedTuple):
     packet: int  # in which it ends, from 0 on
 
 
+def packets_of_script(lines: list[str], first: str = "empty") -> list[Packet]:
+    """The packets of a script (tests/captures.py), each a millisecond after the one before."""
+    capture = Capture()
+    for line in (BEGINNINGS[first] + "\n".join(lines)).splitlines():
+        capture.step(line)
+    found, _ = read_pcap(bytes(capture.bytes))
+    return [Packet(SECOND + at * 10**6, one.data[14:], len(one.data) - 14) for at, one in enumerate(found)]
+
+
+def hexed(octets: bytes) -> str:
+    return f"HEX {octets.hex()}"
+
+
 def segment_of(data: bytes) -> Segment:
-    """Of a packet as h2audit-import writes it."""
+    """The segment in a packet that h2audit-import wrote."""
     header = (data[0] & 15) * 4
     total = struct.unpack_from(">H", data, 2)[0] or len(data)
     source, target, sequence = struct.unpack_from(">HHI", data, header)
@@ -142,14 +159,14 @@ def audited(program: str, capture: bytes) -> list[Opening | Finding | Stall]:
     return list(read_lines(io.BytesIO(run.stdout)))
 
 
-def known_ones(report: list[Opening | Finding | Stall]) -> list[Known]:
+def known_ones(report: list[Opening | Finding | Stall], left_out: Collection[int] = ()) -> list[Known]:
     """The connections of HTTP/2 that are audited to their end, with their stalls by packets of the capture."""
     found: list[Known] = []
     places: dict[int, tuple[int, int]] = {}
     is_read = False
     for line in report:
         if isinstance(line, Opening):
-            is_read = line.form == "http2"
+            is_read = line.form == "http2" and line.number not in left_out
             places = {}
             if is_read:
                 found.append(Known(line.client, line.server))
@@ -167,6 +184,7 @@ def known_ones(report: list[Opening | Finding | Stall]) -> list[Known]:
 class Said(NamedTuple):
     """What the map says of a connection that was joined."""
 
+    number: int  # of its line "connection"
     client: str
     server: str
     how: str
@@ -175,6 +193,8 @@ class Said(NamedTuple):
     borders: list[tuple[int, int] | None]  # offset and bits of each side
     grades: dict[tuple[str, str], str]  # by side and window
     credits: dict[tuple[str, str], tuple[int, int]]  # credit, and the least
+    is_behind: bool = False  # a gap of a connection that is there
+    first: int = 0  # packets before it are of no use
 
 
 class Joined(NamedTuple):
@@ -194,29 +214,37 @@ def joined(program: str, packets: list[Packet], *words: Word) -> Joined:
         report = audited(program, out.read_bytes())
     assert lines[0] == "h2audit-map 2"
     said, unjoined = said_of(lines)
+    behind = {one.number for one in said if one.is_behind}
     of_record = {}
     for line in lines:
         if line.startswith("record "):
             row = line.split()
             of_record[int(row[1]) - 1] = int(row[5]) - 1
-    return Joined(said, unjoined, {(one.client, one.server): one for one in known_ones(report)}, of_record)
+    known = {(one.client, one.server): one for one in known_ones(report, behind)}
+    return Joined([one for one in said if not one.is_behind], unjoined, known, of_record)
 
 
 def said_of(lines: list[str]) -> tuple[list[Said], list[str]]:
     said: list[Said] = []
     unjoined = []
     client = server = ""
+    number = packet = 0
     for line in lines:
         words = line.split()
         if words[0] == "unjoined":
             unjoined.append(words[1])
         elif words[0] == "connection":
             client, server = words[2], words[4]
+            number, packet = number + 1, int(words[8])
         elif words[:2] == ["joined", "exact"]:
-            said.append(Said(client, server, words[2], "", 0, [None, None], {}, {}))
+            said.append(Said(number, client, server, words[2], "", 0, [None, None], {}, {}))
         elif words[:2] == ["joined", "inferred"]:
             made = int(words[5]) + int(words[6])
-            said.append(Said(client, server, "inferred", words[8], made, [None, None], {}, {}))
+            said.append(Said(number, client, server, "inferred", words[-1], made, [None, None], {}, {}))
+        elif words == ["after-gap", "none"]:
+            said[-1] = said[-1]._replace(first=packet - 1)
+        elif words[0] == "after-gap":
+            said[-1] = said[-1]._replace(is_behind=True)
         elif words[0] == "border" and words[2] != "none":
             said[-1].borders[SIDES.index(words[1])] = (int(words[3]), int(words[5]))
         elif words[0] == "assumed":

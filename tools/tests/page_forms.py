@@ -5,6 +5,7 @@ import html.parser
 import json
 import unittest
 import zlib
+from collections.abc import Mapping
 from typing import Any
 
 from h2audit.page.document import page
@@ -13,7 +14,7 @@ from h2audit.page.program import arguments
 from h2audit.page.sources import audit_of
 from h2audit.report.words import time_of
 
-Json = dict[str, Any]
+Json = Mapping[str, Any]
 Attributes = dict[str, str]
 # A row with its attributes, and the texts of its cells.
 Row = tuple[Attributes, list[str]]
@@ -158,17 +159,29 @@ def requests(case: unittest.TestCase, found: Json, shown: Shown) -> None:
     for key, request in said.items():
         cause, name = request["cause"], request["name"] or "(name unknown)"
         name = "pushed " * (request["stream"] % 2 == 0) + name
-        sentences = "\n".join([cause["text"], *([request["life"]] if request["life"] else [])])
-        ask = f"the {cause['ask']}" if cause["ask"] else ""
+        legs = request["legs"]["text"] if request["legs"] else []
+        sentences = "\n".join([cause["text"], *legs, *([request["life"]] if request["life"] else [])])
+        asked = ask_of(request)
+        ask = f"the {asked}" if asked else ""
         cells = rows[key]
         case.assertEqual([cells[0], *cells[4:7]], [name, time_of(request["nanos"]), sentences, ask])
         case.assertEqual(cells[3].split(" ")[0], str(request["status"] or "no"))
         case.assertEqual("grpc" in cells[3], bool(request["grpc_status"]))
         case.assertEqual("its end was not captured" == cells[7], request["end_unseen"])
         case.assertTrue(request["end_unseen"] or (request["ended"]["side"] or "the capture ends") in cells[7])
-        wanted.append([cause["text"], request["life"] or "", cause["ask"] or "", request["nanos"], request["hung"]])
+        wanted.append([cause["text"], request["life"] or "", asked, request["nanos"], request["hung"]])
     if drawn:
         case.assertEqual(by_words, sorted(wanted))
+
+
+def ask_of(request: Json) -> str:
+    """Whom to ask by both legs of a proxy, where they tell it, or by the cause."""
+    if not request["legs"] or not request["legs"]["sums"]:
+        return str(request["cause"]["ask"] or "")
+    ask = request["legs"]["ask"]
+    if not ask:
+        return ""
+    return f"{ask['party']} of another request" if ask["who"] == "other" else str(ask["party"] or "")
 
 
 def connection(case: unittest.TestCase, found: Json, one: Json, verdict: str, shown: Shown) -> None:

@@ -7,6 +7,7 @@ import shutil
 import subprocess
 import tempfile
 import unittest
+from collections import Counter
 from typing import Any
 
 from tests.programs import named
@@ -25,11 +26,19 @@ SIDES = ("client", "server")
 NAMES = ("waiting", "sending", "stream_stall", "connection_stall", "tcp", "others", "idle", "unseen")
 # So many letters of a name are kept.
 LONGEST_NAME = 1024
+# No run takes so long, but one that hangs.
+SECONDS = 300
 Json = dict[str, Any]
 
 
 class Refused(Exception):
     """Why a capture is refused."""
+
+
+def words_for(capture: pathlib.Path) -> list[str]:
+    """The words that name a capture, and its key log if it has one."""
+    keys = capture.with_suffix(".keys")
+    return [str(capture), *(["-k", str(keys)] if keys.exists() else [])]
 
 
 def programs_of(words: list[str]) -> list[str]:
@@ -47,7 +56,7 @@ def has_programs() -> bool:
 
 
 def ran(*words: str | pathlib.Path, stdin: bytes | None = None) -> subprocess.CompletedProcess[bytes]:
-    return subprocess.run([str(WHY), *map(str, words)], input=stdin, capture_output=True)
+    return subprocess.run([str(WHY), *map(str, words)], input=stdin, capture_output=True, timeout=SECONDS)
 
 
 def said_of(*words: str | pathlib.Path) -> Json:
@@ -78,6 +87,37 @@ def request_of(connection: Json, path: str) -> Json:
     (request,) = [one for one in connection["requests"] if one["path"] == path]
     found: Json = request
     return found
+
+
+def suites_of(found: Json) -> list[str]:
+    """The names of the connections in a JUnit file: the server's, and which of those to it each is."""
+    turns = Counter[str]()
+    names = []
+    for one in found["connections"]:
+        turns[one["server"]] += 1
+        names.append(f"{one['server']}, connection {turns[one['server']]}")
+    return names
+
+
+def in_turn(requests: list[Json]) -> list[str]:
+    """Those of the requests: how often each came is behind the name, from the second time on."""
+    turns = Counter[str]()
+    names = []
+    for request in requests:
+        name = request["name"] or "request"
+        turns[name] += 1
+        names.append(name if turns[name] == 1 else f"{name} ({turns[name]})")
+    return names
+
+
+def check_shares(found: Json) -> None:
+    """Shares sum to the life of each direction."""
+    for one in found["connections"]:
+        for request in one["requests"]:
+            for side in (request[name] for name in SIDES):
+                shares = side["shares"].values()
+                if sum(shares) != side["nanos"] or min(shares) < 0:
+                    raise AssertionError(f"stream {request['stream']}: {side['shares']} of {side['nanos']}")
 
 
 class OnCaptures(unittest.TestCase):

@@ -1,0 +1,240 @@
+"""Counts the threads that a program starts: python3 -m tools.tests.core.threads_test PROGRAM
+
+No contract says that threads run, since it could not say that they take turns. So each way in which
+docs/ARCHITECTURE.md divides the work has a capture here that takes it, and the number of threads that it adds,
+computed by hand. A way that is idle, or a thread that is started in vain, changes a sum. One worker starts no thread;
+of several, the thread at hand mostly starts the others and waits.
+
+The reader begins a walk over packets where the one before it is done. Here a read waits for the threads that were
+started before it (count.c), so there is a walk for each MiB but the last.
+"""
+
+import pathlib
+import tempfile
+import unittest
+
+from tests.captures import BEGINNINGS, PREFACE, SERVER, SYN, SYN_ACK, Capture, capture_of, frame_of
+from tests.programs import needed
+from tools.tests.core.counting import Counter
+
+RUNS = ("$H2AUDIT",)
+TOP = pathlib.Path(__file__).resolve().parents[3]
+
+SETTINGS, SETTINGS_ACK = frame_of(["SETTINGS"]), frame_of(["ACK"])
+
+
+def pings(frames: int, first: str = "C PING") -> bytes:
+    """One connection of so many frames: the four with which it is opened, a fifth, and PINGs, 87 bytes a record."""
+    return capture_of(f"opened\n{first}\n" + "C PING\n" * (frames - 5))
+
+
+def connections(count: int, last: bytes = b"", settings: bytes = SETTINGS, answer: bytes = SETTINGS_ACK) -> bytes:
+    """So many connections of six records and four frames each, in 480 bytes: what the client answers to the server's
+    settings, and what the server sends last.
+    """
+    capture = Capture()
+    for port in range(1000, 1000 + count):
+        client = (0x0A000001, port)
+        capture.ends = {"C": (client, SERVER), "S": (SERVER, client)}
+        capture.syn("C", 1000, SYN)
+        capture.syn("S", 5000, SYN_ACK)
+        for side, payload in (("C", PREFACE + SETTINGS), ("S", settings), ("C", answer), ("S", SETTINGS_ACK + last)):
+            capture.send(side, payload)
+    return bytes(capture.bytes)
+
+
+def credits(frames: int) -> bytes:
+    """One connection whose client sends so many frames of a byte in one record. Each has two credits; of the stream's
+    opening there are two as well, and the section has a beginning and an end: four entries more.
+    """
+    capture = Capture()
+    for line in BEGINNINGS["opened"].splitlines():
+        capture.step(line)
+    capture.send("C", frame_of(["HEADERS", "1"]) + frames * frame_of(["DATA", "1", "1"]))
+    return bytes(capture.bytes)
+
+
+TWO_STREAMS = capture_of("opened\nC HEADERS 1\nC HEADERS 3\n")
+TWO_LOUD_STREAMS = capture_of("opened\nC HEADERS 1\nC HEADERS 3\nS WINDOW_UPDATE 1 0\nS WINDOW_UPDATE 3 0\n")
+# An acknowledgement that answers nothing, which is told and ends nothing: so the frames of a connection that is longer
+# than a block go through the rounds.
+UNMATCHED, AT_ONCE = SETTINGS_ACK, "C ACK"
+# A grant of nothing, which is a connection error, and is told as its frame is met.
+NOTHING_GRANTED = frame_of(["WINDOW_UPDATE", "0", "0"])
+# SETTINGS by which streams have no credit, and the opening of one. Its stall begins there, or at the acknowledgement.
+NO_WINDOW, OPENING = frame_of(["SETTINGS", "4", "0"]), frame_of(["HEADERS", "1"])
+SHORT, LONG, LONGER = pings(3904, AT_ONCE), pings(4096, AT_ONCE), pings(20004, AT_ONCE)
+
+Ways = dict[str, int]
+# The words, the capture, and how many threads each way adds beside the one at hand.
+ROWS: list[tuple[str, bytes, Ways]] = [
+    ("--workers 2", TWO_STREAMS, {"flows, of few segments": 0, "nothing is shown, so there is no round": 0}),
+    ("--workers 2 --frames", TWO_STREAMS, {"flows": 0, "one block, so there is no round": 0}),
+    (
+        "--workers 2 --frames --block 4",
+        TWO_STREAMS,
+        {"flows": 0, "two groups": 2, "two blocks are summed, and are gone through": 4},
+    ),
+    ("--workers 2", TWO_LOUD_STREAMS, {"flows": 0, "two groups": 2}),
+    ("--workers 2", SHORT, {"a part ahead, from 256 KiB on": 1, "flows": 0}),
+    ("--workers 4 --block 64", SHORT, {"a part ahead": 1, "flows": 0, "61 blocks are summed": 4}),
+    ("--workers 4", LONG, {"a part ahead": 1, "flows": 0, "faults, and the split, from 4,096 frames on": 2}),
+    (
+        "--workers 4 --block 64",
+        LONG,
+        {
+            "a part ahead": 1,
+            "flows": 0,
+            "faults, and the split": 2,
+            "two blocks of a front of 128 frames": 2,
+            "64 blocks are summed": 4,
+        },
+    ),
+    (
+        "--workers 4 --block 64",
+        pings(4096, "S WINDOW_UPDATE 9 1"),
+        {"a part ahead": 1, "flows": 0, "nothing behind an error in the front": 0},
+    ),
+    (
+        "--workers 4",
+        LONGER,
+        {
+            "chunks ahead, one at each 256 KiB of the first MiB": 4,
+            "packets of that MiB while reading goes on": 1,
+            "flows, of 16,384 segments and more": 2,
+            "faults, and the split": 2,
+            "faults in three pieces": 2,
+            "five blocks are summed": 4,
+        },
+    ),
+    (
+        "--workers 4",
+        pings(70_000),
+        {
+            "chunks ahead": 4,
+            "one more at each MiB from the second on": 4,
+            "packets of five MiB": 5,
+            "flows": 2,
+            "both sides of six batches, of 128 KiB twice and then of 256 KiB": 12,
+            "each is met while the next one is taken": 6,
+        },
+    ),
+    (
+        "--workers 4 --block 100000",
+        pings(70_000, AT_ONCE),
+        {
+            "chunks ahead": 4,
+            "one more at each MiB from the second on": 4,
+            "packets of five MiB": 5,
+            "flows": 2,
+            "both sides of two batches, and the first is met beside the second: then a line may be shown": 5,
+            "both sides of six batches for the list": 12,
+            "each is appended while the next one is taken": 6,
+            "faults, and the split": 2,
+            "faults in three pieces": 2,
+            "one block, so none is summed": 0,
+        },
+    ),
+    ("--workers 2", connections(2), {"flows of two": 2, "nothing is shown, so there is no round": 0}),
+    ("--workers 2", connections(2, UNMATCHED), {"flows of two": 2, "told as met, so there is no round": 0}),
+    (
+        "--workers 2 --block 4",
+        connections(2, UNMATCHED),
+        {"flows of two": 2, "one is made ready beside the other": 1, "two blocks of each are summed": 2},
+    ),
+    ("--workers 2", connections(2, NOTHING_GRANTED), {"flows of two": 2, "told as met, so there is no round": 0}),
+    (
+        "--workers 2",
+        connections(2, settings=NO_WINDOW, answer=SETTINGS_ACK + OPENING),
+        {"flows of two": 2, "stalls of openings are told as met, so there is no round": 0},
+    ),
+    (
+        "--workers 2",
+        connections(2, settings=NO_WINDOW, answer=OPENING + SETTINGS_ACK),
+        {"flows of two": 2, "stalls of acknowledgements are told as met, so there is no round": 0},
+    ),
+    (
+        "--workers 2 --block 4",
+        connections(2, NOTHING_GRANTED),
+        {
+            "flows of two": 2,
+            "one is made ready, having more frames than a block": 1,
+            "two blocks are summed, and two are gone through": 4,
+        },
+    ),
+    ("--workers 4", connections(63), {"flows": 4}),
+    (
+        "--workers 4 --block 4",
+        connections(63, UNMATCHED),
+        {"flows": 4, "three are made ready beside one": 3, "sums": 4},
+    ),
+    (
+        "--workers 4 --block 4",
+        connections(64, UNMATCHED),
+        {
+            "flows": 4,
+            "a share of 16, from 64 connections on": 1,
+            "of the others two shares are made ready beside one": 2,
+            "blocks of these are summed by three": 3,
+        },
+    ),
+    (
+        "--workers 4 --block 4",
+        connections(5000, UNMATCHED),
+        {
+            "chunks ahead": 4,
+            "one more at the second MiB": 1,
+            "packets of two MiB": 2,
+            "flows": 4,
+            "three shares of one batch beside one": 3,
+            "four pages, each filled once": 4,
+        },
+    ),
+    ("--workers 4", connections(1023), {"a part ahead": 1, "flows": 4, "2,046 entries are one worker's": 0}),
+    ("--workers 4", connections(1024), {"a part ahead": 1, "flows": 4, "two pages, from 2,048 entries on": 2}),
+    (
+        "--workers 4",
+        connections(8192),
+        {
+            "chunks ahead": 4,
+            "one more at the second and the third MiB": 2,
+            "packets of three MiB": 3,
+            "flows": 4,
+            "four pages, each filled once": 4,
+        },
+    ),
+    ("--workers 4 --frames --block 100000", credits(1021), {"flows": 0, "2,046 entries": 0}),
+    ("--workers 4 --frames --block 100000", credits(1022), {"flows": 0, "two pages of 1,025 entries": 2}),
+    ("--workers 4 --frames --block 100000", credits(8190), {"flows": 0, "four pages of 4,096 entries": 4}),
+    ("--workers 4 --frames --block 100000", credits(8191), {"flows": 0, "four pages, filled twice": 8}),
+]
+
+
+class Threads(unittest.TestCase):
+    counter: Counter
+    capture: pathlib.Path
+
+    @classmethod
+    def setUpClass(cls) -> None:
+        folder = tempfile.TemporaryDirectory()
+        cls.addClassCleanup(folder.cleanup)
+        cls.counter, cls.capture = Counter(PROGRAM, folder.name), pathlib.Path(folder.name, "capture")
+
+    def started(self, words: str, capture: bytes) -> int:
+        """How many threads a run starts. The capture is a file, which a read gives as much of as it asks for."""
+        self.capture.write_bytes(capture)
+        return self.counter.run([*words.split(), str(self.capture)], SETTLE=1).counts.started
+
+    def test_each_way(self) -> None:
+        for words, capture, ways in ROWS:
+            with self.subTest(words, ways=ways):
+                self.assertEqual(sum(ways.values()), self.started(words, capture))
+
+    def test_one_worker(self) -> None:
+        for _, capture, _ in ROWS:
+            self.assertEqual(0, self.started("--workers 1 --block 64", capture))
+
+
+if __name__ == "__main__":
+    (PROGRAM,) = needed()
+    unittest.main()

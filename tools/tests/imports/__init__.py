@@ -1,0 +1,1 @@
+"""Tests of h2audit-import and h2audit-any."""

@@ -1,0 +1,128 @@
+"""Tests of h2audit-why on both legs of a proxy in other forms of the same captures, and of what legs cost.
+
+    python3 -m tools.tests.why.legs_forms_test [H2AUDIT] [Forms | Costs]
+"""
+
+import os
+import pathlib
+import subprocess
+import sys
+import unittest
+
+from tools.tests.legs_written import at_once, mixed
+from tools.tests.why.captures_test import SCHEMA
+from tools.tests.why.legs_judge import Answer
+from tools.tests.why.legs_packets import OnLegs, capture_named, port, ports_of, told
+from tools.tests.why_tools import WHY, has_programs, programs_of, said_of, text
+
+RUNS = ("$H2AUDIT",)
+# What legs may cost beside all else, where there are hops and where there are none, with room for a busy machine.
+WITH_HOPS, WITHOUT = 1.7, 1.25
+TIMES_AS_LONG = 12
+
+
+class Forms(OnLegs):
+    def test_two_files(self) -> None:
+        """Front and back captured by themselves, in either order, say what one capture does."""
+        made = capture_named("mixed_haproxy")
+        front, back = (port(server) for server in made.hops[0])
+        whole = said_of(self.whole(made))
+        files = [
+            self.chosen(made, lambda _, one: front in ports_of(one), "front.pcap"),
+            self.chosen(made, lambda _, one: back in ports_of(one), "back.pcap"),
+        ]
+        for words in (files, files[::-1]):
+            found = said_of(*words)
+            self.assertEqual([hop["grades"] for hop in found["hops"]], [hop["grades"] for hop in whole["hops"]])
+            self.assertEqual(told(found), told(whole))
+
+    def test_schema(self) -> None:
+        """What --json says of both legs is as the schema says: each try has the life of the back request, and
+        the lines are those of --legs.
+        """
+        import jsonschema  # type: ignore[import]
+
+        for name in ("f_haproxy", "g_caddy", "c_apache", "w_caddy", "m_caddy_haproxy"):
+            path = self.whole(capture_named(name))
+            found, lines = said_of(path), text("--legs", path)
+            jsonschema.Draft202012Validator(SCHEMA).validate(found)
+            requests = Answer(found).requests.values()
+            for legs in (asked["legs"] for asked in requests if asked["legs"]):
+                self.assertEqual([line for line in legs["text"] if line not in lines], [])
+            lives = {(one["number"], asked["stream"]): (asked["opened"]["time"], asked["nanos"])
+                     for one in found["connections"] for asked in one["requests"]}  # fmt: skip
+            for asked in requests:
+                for leg in (asked["legs"] or {"carried_by": None})["carried_by"] or ():
+                    opened = asked["opened"]["time"] + leg["begin"]
+                    self.assertEqual((opened, leg["nanos"]), lives[leg["connection"], leg["stream"]])
+
+    def test_one_leg(self) -> None:
+        """Each leg alone has no hop."""
+        made = capture_named("mixed_nginx")
+        for server in made.hops[0]:
+            path = self.chosen(made, lambda _, one: port(server) in ports_of(one))
+            found = said_of(path)
+            self.assertEqual(found["hops"], [])
+            self.assertEqual({asked["legs"] is None for asked in Answer(found).requests.values()}, {True})
+
+    def test_no_legs(self) -> None:
+        """Without legs the rest of the answer is the same."""
+        path = self.whole(capture_named("e_haproxy"))
+        with_legs, without = said_of(path), said_of("--no-legs", path)
+        self.assertEqual(len(with_legs["hops"]), 1)
+        self.assertEqual(without["hops"], [])
+        for found in (with_legs, without):
+            del found["hops"]
+            for asked in Answer(found).requests.values():
+                asked["legs"] = None
+        self.assertEqual(with_legs, without)
+
+    def test_ids(self) -> None:
+        """An x-request-id is read, and never printed without --query."""
+        path = self.whole(capture_named("w_haproxy_ids"))
+        for said in (text(path), text("--legs", path), text("--json", path)):
+            self.assertNotIn("id-00", said)
+
+    def test_without_keys(self) -> None:
+        """A leg in TLS without keys is not read: there are no two legs."""
+        made = capture_named("tls_haproxy")
+        self.assertEqual(said_of(self.whole(made))["hops"], [])
+
+
+class Costs(OnLegs):
+    """Processor seconds of h2audit-why and what it starts, the least of some runs."""
+
+    def seconds(self, *words: str | pathlib.Path) -> float:
+        return min(self.once(*words) for _ in range(5))
+
+    def once(self, *words: str | pathlib.Path) -> float:
+        child = subprocess.Popen([str(WHY), "--json", *map(str, words)], stdout=subprocess.DEVNULL)
+        _, status, usage = os.wait4(child.pid, 0)
+        child.returncode = os.waitstatus_to_exitcode(status)
+        self.assertIn(child.returncode, (0, 1))
+        return float(usage.ru_utime + usage.ru_stime)
+
+    def written(self, capture: bytes) -> pathlib.Path:
+        path = self.folder / "written.pcap"
+        path.write_bytes(capture)
+        return path
+
+    def test_share(self) -> None:
+        """What legs add to all else."""
+        for has_back, most in ((True, WITH_HOPS), (False, WITHOUT)):
+            with self.subTest(has_back=has_back):
+                path = self.written(mixed(4000, has_back))
+                self.assertEqual(len(said_of(path)["hops"]), int(has_back))
+                self.assertLessEqual(self.seconds(path), most * self.seconds("--no-legs", path))
+
+    def test_growth(self) -> None:
+        """Ten times as many equal requests, all open at once, take hardly more than ten times as long."""
+        few, many = (self.seconds(self.written(at_once(count))) for count in (1000, 10_000))
+        self.assertLessEqual(many, TIMES_AS_LONG * few)
+
+
+if __name__ == "__main__":
+    sys.argv = programs_of(sys.argv)
+    if not has_programs():
+        sys.exit("h2audit or h2audit-import is not built")
+    unittest.main()
