@@ -19,13 +19,16 @@ BESIDE = $(RUST_PROGRAMS) $(PYTHON_PROGRAMS) h2audit-split
 # What a build without proof is tried on, and where it is.
 TRIED = examples/paused_stream_node.pcap
 UNPROVED = out/unproved
+# Rooms of tests of the programs beside h2audit, and of the rest: "make check" makes those of their runs that are quick.
+PROGRAM_ROOMS = why imports page comment fleet
+SOURCE_ROOMS = rust documents core
 # The parts of "make check", the longest first.
-CHECKS = tests split companions sources layout believed storeys crates rules
+CHECKS = tests split $(SOURCE_ROOMS) $(PROGRAM_ROOMS) layout
 RUST_SOURCES := h2audit/report/kinds.txt $(shell find companions -name target -prune -o -type f -print)
 SOURCES := crates.txt $(shell find crates -name out -prune -o -name '*.rt' -print -o -name '*.antt' -print)
 
-.PHONY: try deps build companions install deb version check $(CHECKS:%=check-%) test test-tools bench \
-	believed pictures
+.PHONY: try deps build companions install deb version release check $(CHECKS:%=check-%) audited test test-tools \
+	bench believed pictures
 
 # Builds all programs without proof, and shows the answer that the README begins with.
 try:
@@ -35,8 +38,8 @@ try:
 	@echo 'Nothing of this h2audit was proved. It is $(UNPROVED)/h2audit; the programs in Rust beside it are in'
 	@echo '$(RUST_BUILT), and run it where the variable H2AUDIT names it. "make build" proves it, and builds it.'
 
-$(UNPROVED)/h2audit: $(SOURCES) tools/unproved.py
-	@$(PYTHON) -m tools.unproved $(UNPROVED) h2audit
+$(UNPROVED)/h2audit $(UNPROVED)/h2audit-split: $(SOURCES) tools/unproved.py
+	@$(PYTHON) -m tools.unproved $(UNPROVED) $(@F)
 
 # Installs the Debian packages that the programs in Rust and the tests need, as root.
 deps:
@@ -66,7 +69,7 @@ install: $(PROGRAM) $(SPLIT) $(RUST_BUILT)/built
 	install -D -m 755 -t $(DESTDIR)$(PREFIX)/bin $(RUST_PROGRAMS:%=$(RUST_BUILT)/%) $(PYTHON_PROGRAMS:%=tools/%)
 	$(foreach folder,$(PYTHON_PACKAGES),install -D -m 644 -t $(share)/h2audit/$(folder) \
 		$(filter-out %/__pycache__,$(wildcard $(folder)/*.*)) &&) true
-	install -D -m 644 -t $(share)/h2audit VERSION companions/why/schema.json
+	install -D -m 644 -t $(share)/h2audit VERSION companions/why/schema.json companions/why/trace.schema.json
 	install -D -m 644 -t $(share)/man/man1 tools/man/h2audit.1 $(BESIDE:%=tools/man/%.1)
 	install -D -m 644 tools/completions/h2audit.bash $(share)/bash-completion/completions/h2audit
 	$(foreach name,$(BESIDE),ln -sf h2audit $(share)/bash-completion/completions/$(name) &&) true
@@ -85,10 +88,14 @@ deb: $(PROGRAM) $(SPLIT) $(RUST_BUILT)/built
 version:
 	$(PYTHON) -m tools.version
 
-# What tells in two minutes on four processors whether a change holds together, and proves nothing: layout, types of
+# Makes a release of what VERSION names: a commit and a tag, which are not pushed.
+release:
+	@$(PYTHON) -m tools.release
+
+# What tells in four minutes on four processors whether a change holds together, and proves nothing: layout, types of
 # Python, the front end on every crate but the few lines of h2audit_cli, the tests of calls, the definitions to believe,
-# their storeys, what sources call, and form, clippy and own tests of the programs in Rust, which "make companions" built
-# before. With CRATE=NAME it proves that crate.
+# their storeys, what sources call, form, clippy and own tests of the programs in Rust, and the tests of each program
+# beside h2audit that take seconds. With CRATE=NAME it proves that crate.
 check:
 ifdef CRATE
 	cd crates/$(CRATE) && rt check
@@ -105,11 +112,14 @@ check-tests:
 check-split:
 	@cd crates/h2audit_split && rt try -- $$(cat args) | diff stdout -
 
-check-companions:
-	@tools/tests/rust_test.sh form && tools/tests/rust_test.sh tests
+$(PROGRAM_ROOMS:%=check-%): audited
+$(PROGRAM_ROOMS:%=check-%) $(SOURCE_ROOMS:%=check-%): check-%:
+	@$(PYTHON) -m tools.tests.run --quick $*
 
-check-sources check-believed check-storeys check-crates check-rules: check-%:
-	$(PYTHON) -m tools.tests.$*_test
+# A build of h2audit: the proved one, where it is newer than its sources, or else one without proof.
+audited: companions
+	@$(MAKE) --no-print-directory --question $(PROGRAM) 2> /dev/null || \
+		$(MAKE) --no-print-directory $(UNPROVED)/h2audit
 
 # The gate: proves the crates, tries the must-fail edits, runs the tests and the programs; and asks the programs, as
 # both compilers built them, for whole reports and for parts. "rt ci" proves and tries all, each time.
@@ -120,15 +130,15 @@ test: companions
 	$(PYTHON) -m tests.split_test $(PROGRAM) $(SPLIT) $(SPLIT).by-rattle
 
 # Tests what stands around the core: the programs in Rust and in Python, man pages, completions, recipes and package. It
-# proves nothing.
+# proves nothing. TESTS names some, as TESTS='why fleet/parts'.
 test-tools:
-	tools/tests/run.sh
+	@$(PYTHON) -m tools.tests.run $(TESTS)
 
 # Draws the pictures of docs/ anew.
 pictures:
-	$(PYTHON) -m tools.tests.plot_test --write
-	$(PYTHON) -m tools.tests.page_browser_test --write
-	tools/tests/wireshark_picture.sh docs/pictures/wireshark_comments.png
+	$(PYTHON) -m tools.tests.page.plot_test --write
+	$(PYTHON) -m tools.tests.page.browser_test --write
+	tools/tests/documents/wireshark_picture.sh docs/pictures/wireshark_comments.png
 
 # Measures time and memory on generated captures, beside cat. BENCH has more words for bench.measure, as
 # make bench BENCH='--peer PROGRAM --shapes bulk,chatty 40'. Then the programs beside it, each beside what a user would

@@ -24,7 +24,7 @@ OPENINGS = 5
 # Reports of 400 windows with 48,000 stalls, and of 60,000 connections with 120,000 windows. A process of its own writes
 # them: what it takes would count for the next.
 WRITTEN = {"stalls": "large(400, 2400, 20)", "60,000": "crowded(60000, 7, 50)"}
-WRITE = "import sys; from tools.tests.page_test import crowded, large; sys.stdout.write({})"
+WRITE = "import sys; from tools.tests.page.page_test import crowded, large; sys.stdout.write({})"
 
 
 def capture_of(folder: pathlib.Path, shape: str, megabytes: int) -> pathlib.Path:

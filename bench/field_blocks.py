@@ -145,7 +145,7 @@ def new_cookie(dice: Dice) -> str:
 
 
 def size_of(dice: Dice) -> int:
-    """Of a response: most are short, and some only say that nothing has changed."""
+    """The size of a response: most are short, and some only say that nothing has changed."""
     way = dice.between(0, 99)
     if way < 10:
         return 0

@@ -17,6 +17,7 @@ Shapes of what peers say, with header blocks, several frames in a segment, and a
   stalls       four connections of sixteen downloads, whose windows reach 0 again and again
   broken       eight connections at once, each with an error early in it, and much traffic after it
   requests     one connection, up to a hundred short downloads at once
+  proxied      such downloads through a proxy, from four clients' connections over two to its upstream
   web          a browser's requests, up to 24 at once, with the field blocks that it sends
   api          calls of gRPC, up to four at once, with the field blocks that it sends
 Shapes that a peer might make on purpose, each with as much of one thing as of the other:
@@ -43,7 +44,7 @@ import sys
 from collections.abc import Callable
 
 from bench.field_blocks import api, web
-from bench.peers import broken, downloads, grpc, many, mixed, reorder, requests, stalls
+from bench.peers import broken, downloads, grpc, many, mixed, proxied, reorder, requests, stalls
 from bench.wire import ACK, CLIENT, SERVER, SYN, Capture, Connection, frame, window_update
 
 Shape = Callable[[Capture, int], None]
@@ -247,7 +248,7 @@ def many_moves(capture: Capture, size: int, one: Connection) -> None:
 
 
 USUAL = (bulk, small, connections, chatty, calls, streams, early)
-TALKS: tuple[Shape, ...] = (downloads, reorder, mixed, many, grpc, stalls, broken, requests, web, api)
+TALKS: tuple[Shape, ...] = (downloads, reorder, mixed, many, grpc, stalls, broken, requests, proxied, web, api)
 HOSTILE = (
     closed,
     strays,

@@ -63,7 +63,7 @@ def once(words: list[str], path: str | os.PathLike[str]) -> Run:
 
 
 def best(commands: list[list[str]], path: str, runs: int) -> list[Run]:
-    """Of each command the least times and the greatest peak, the commands in turn."""
+    """The least times and the greatest peak of each command, where the commands take turns."""
     found = [[once(words, path) for words in commands] for _ in range(runs)]
     return [
         Run(min(run.wall for run in each), min(run.processor for run in each), max(run.peak for run in each))
@@ -72,7 +72,7 @@ def best(commands: list[list[str]], path: str, runs: int) -> list[Run]:
 
 
 def digest(program: str, path: str) -> bytes:
-    """Of the report, which is not kept."""
+    """The digest of the report, which is not kept."""
     words = [program, "--workers", "1"]
     report = hashlib.sha256()
     with open(path, "rb") as source, subprocess.Popen(words, stdin=source, stdout=subprocess.PIPE) as child:

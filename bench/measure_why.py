@@ -30,7 +30,7 @@ from bench.measure import Run, best, generate, refuse
 TOP = pathlib.Path(__file__).resolve().parents[1]
 PAGE = TOP / "tools" / "h2audit-page"
 AUDITED = (0, 1)
-# Of the table, with their widths.
+# The columns of the table, with their widths.
 COLUMNS = {
     "shape": 11, "MB": 6, "requests": 8, "frames": 9,
     "any s": 7, "why s": 7, "x any": 6, "goal": 4, "steps": 6, "json x": 6, "goal ": 5,
@@ -59,6 +59,7 @@ GOALS = {
     "api": Goal(2.7, page=3),
 }
 PAGE_SECONDS, PAGE_MEGABYTES = 0.4, 150
+FRONT = 1 << 12
 GROWTH = 1.08
 
 
@@ -111,8 +112,10 @@ class Programs(NamedTuple):
         return commands + ([[self.before, *auditor, capture]] if self.before else [])
 
 
-def said(words: list[str]) -> tuple[str, float]:
-    """What a program prints, and the peak of its own process. It has to end as one that has audited."""
+def said(words: list[str], most: int = -1) -> tuple[str, float]:
+    """What a program prints, or so many bytes of it, and the peak of its own process. It has to end as one that has
+    audited.
+    """
     peak, pause = 0.0, 0.003
     with tempfile.TemporaryFile() as output:
         child = subprocess.Popen(words, stdin=subprocess.DEVNULL, stdout=output, stderr=subprocess.PIPE)
@@ -125,7 +128,7 @@ def said(words: list[str]) -> tuple[str, float]:
         if child.returncode not in AUDITED:
             refuse("%s answers %d: %s" % (" ".join(words), child.returncode, why))
         output.seek(0)
-        return output.read().decode(errors="replace"), peak
+        return output.read(most).decode(errors="replace"), peak
 
 
 def peak_of(process: int) -> float:
@@ -139,8 +142,12 @@ def peak_of(process: int) -> float:
 
 
 def found(commands: list[list[str]]) -> Found:
-    """Runs each program once, and sees that it says what it should."""
-    (report, _), (answer, own), (document, _), *_ = [said(words) for words in commands]
+    """Runs each program once, and sees that it says what it should. Of long texts the front is read alone: a child's
+    peak counts from the memory of the process that starts it.
+    """
+    (report, _), (answer, own), (document, _) = said(commands[0]), said(commands[1], FRONT), said(commands[2], FRONT)
+    for words in commands[3:]:
+        said(words, FRONT)
     if not document.startswith("{"):
         refuse("%s prints no document" % " ".join(commands[2]))
     frames = [int(count) for count in re.findall(r"^connection .* frames (\d+)$", report, re.M)]

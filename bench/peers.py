@@ -275,6 +275,33 @@ def in_error(line: Line, number: int) -> Talk:
     return talk
 
 
+def proxied(capture: Capture, size: int) -> None:
+    """The server of the back connections has the answers of both."""
+    line = Line(capture)
+    dice = line.dice
+    fronts, backs = [Talk(line, 5 * number) for number in range(4)], [Talk(line, 5 * number + 1) for number in range(2)]
+    for talk in fronts + backs:
+        talk.open(((ENABLE_PUSH, 0),))
+    waiting: list[tuple[tuple[Talk, int], tuple[Talk, int]]] = []
+    while capture.size < size:
+        for _ in range(dice.between(1, 4)):
+            front, back = fronts[dice.between(0, 3)], backs[dice.between(0, 1)]
+            path = front.path()
+            waiting.append(((front, front.request(END_STREAM, path)), (back, back.request(END_STREAM, path))))
+            front.flush(CLIENT)
+            back.flush(CLIENT)
+        while len(waiting) > 20 or waiting and dice.often(600):
+            at = dice.between(0, len(waiting) - 1)
+            waiting[at], waiting[-1] = waiting[-1], waiting[at]
+            length = dice.between(10, 3000)
+            for talk, stream in reversed(waiting.pop()):
+                talk.response(0, stream)
+                talk.data(SERVER, END_STREAM, stream, length)
+                talk.flush(SERVER)
+                talk.refill(SERVER, 30000)
+                talk.flush(CLIENT)
+
+
 def requests(capture: Capture, size: int) -> None:
     line = Line(capture)
     talk, dice = Talk(line, 0), line.dice

@@ -130,12 +130,15 @@ class Talk:
         self.frame(side, DATA, flags, stream, self.line.noise[at : at + length])
         self.credit[side] -= length
 
-    def request(self, flags: int) -> int:
+    def path(self) -> bytes:
+        """That of the next request."""
+        return bytes(97 + (self.next_stream + place) % 26 for place in range(self.dice.between(4, 40)))
+
+    def request(self, flags: int, path: bytes = b"") -> int:
         """Indexed fields, and literals that no table takes."""
+        path = path or self.path()
         stream, self.next_stream = self.next_stream, self.next_stream + 2
-        length = self.dice.between(4, 40)
-        path = bytes(97 + (stream + place) % 26 for place in range(length))
-        block = b"\x82\x86\x01\x09localhost\x04" + bytes([length + 1]) + b"/" + path
+        block = b"\x82\x86\x01\x09localhost\x04" + bytes([len(path) + 1]) + b"/" + path
         self.frame(CLIENT, HEADERS, flags | END_HEADERS, stream, block)
         return stream
 
