@@ -6,6 +6,8 @@ run once, without words, for at most eight minutes, it says so at its top, a scr
     RUNS = ("$H2AUDIT Tables", "Course")    the words of each run
     LIMIT = 1200                            how many seconds each may take
     QUICK = True                            "make check" makes these runs too, or those that are listed here
+    TIMED = True                            these runs depend on time, or those that are listed here: with clocks,
+                                            servers or browsers. One that fails is made once more at the end
 
 $H2AUDIT and $SPLIT are the paths of h2audit and h2audit-split. A run with $PROVED or $PROVED_SPLIT is made with proved
 programs alone.
@@ -22,8 +24,9 @@ from collections.abc import Iterator
 HERE = pathlib.Path(__file__).resolve().parent
 SECONDS = 480
 PYTHON = "/usr/bin/python3"
+STATED = ("RUNS", "LIMIT", "QUICK", "TIMED")
 # A constant of a script.
-COMMENT = re.compile(r"^# (?=(?:RUNS|LIMIT|QUICK) = )", re.M)
+COMMENT = re.compile(rf"^# (?=(?:{'|'.join(STATED)}) = )", re.M)
 
 
 class Unclear(Exception):
@@ -38,6 +41,7 @@ class Run:
     words: tuple[str, ...]
     seconds: int
     is_quick: bool
+    is_timed: bool
 
     @property
     def room(self) -> str:
@@ -83,20 +87,28 @@ def said(path: pathlib.Path) -> dict[str, object]:
         if isinstance(node, ast.Assign) and isinstance(node.targets[0], ast.Name)
     }
     try:
-        return {name: ast.literal_eval(assigned[name]) for name in ("RUNS", "LIMIT", "QUICK") if name in assigned}
+        return {name: ast.literal_eval(assigned[name]) for name in STATED if name in assigned}
     except ValueError as why:
-        raise Unclear(f"{path}: RUNS, LIMIT and QUICK are values as they are: {why}") from None
+        raise Unclear(f"{path}: {', '.join(STATED)} are values as they are: {why}") from None
 
 
 def runs_of(path: pathlib.Path) -> Iterator[Run]:
     stated = said(path)
-    runs, seconds, quick = stated.get("RUNS", ("",)), stated.get("LIMIT", SECONDS), stated.get("QUICK", False)
-    if not isinstance(runs, tuple) or not isinstance(seconds, int) or not isinstance(quick, bool | tuple):
-        raise Unclear(f"{path}: RUNS is a tuple, LIMIT a number, and QUICK True or a tuple")
-    if isinstance(quick, tuple) and not set(quick) <= set(runs):
-        raise Unclear(f"{path}: QUICK has what RUNS has not")
+    runs, seconds = stated.get("RUNS", ("",)), stated.get("LIMIT", SECONDS)
+    if not isinstance(runs, tuple) or not isinstance(seconds, int):
+        raise Unclear(f"{path}: RUNS is a tuple, and LIMIT a number")
+    quick, timed = (listed(path, name, stated.get(name, False), runs) for name in ("QUICK", "TIMED"))
     for words in runs:
-        yield Run(path, tuple(shlex.split(words)), seconds, quick if isinstance(quick, bool) else words in quick)
+        yield Run(path, tuple(shlex.split(words)), seconds, words in quick, words in timed)
+
+
+def listed(path: pathlib.Path, name: str, stated: object, runs: tuple[str, ...]) -> tuple[str, ...]:
+    """The runs that a constant is about: all, none, or those that it lists."""
+    if isinstance(stated, bool):
+        return runs if stated else ()
+    if not isinstance(stated, tuple) or not set(stated) <= set(runs):
+        raise Unclear(f"{path}: {name} is True, or a tuple of some of RUNS")
+    return stated
 
 
 def all_runs() -> list[Run]:

@@ -1,8 +1,9 @@
 """Runs tests, by their rooms or names: python3 -m tools.tests.run [--quick] [--list] [ROOM | ROOM/NAME ..]
 
 One after another, for costs and clocks are among them, in the order of their names; all where none is named. What a
-test says is shown where it fails. The others are still run, and the list of all that failed comes last, with the end
-of what each said.
+test says is shown where it fails. The others are still run, and then those that failed and depend on time once more, as
+on a busy machine a clock, a server or a browser may be late. The list of all that failed comes last, with the end of
+what each said.
 
 The programs are built first, without proof where they are not proved or older than their sources: then a run that
 needs proved ones is left out, and the whole fails. With --quick only the runs of "make check" are made, with what is
@@ -85,19 +86,25 @@ def outcome(run: Run, programs: dict[str, str], said: IO[bytes]) -> tuple[bool, 
     return status == 0, f"failed in {took} s, status {status}" if status else f"passed in {took} s"
 
 
+def failure(run: Run, programs: dict[str, str], say: Callable[[str], None]) -> str:
+    """Makes a run. Where it fails, its name with the last lines that it said, and else nothing."""
+    with tempfile.TemporaryFile() as said:
+        has_passed, told = outcome(run, programs, said)
+        said.seek(0)
+        text = "" if has_passed else said.read().decode(errors="replace").rstrip()
+    if text:
+        say(text)
+    say(f"{run.name}: {told}")
+    return "" if has_passed else "\n    ".join([f"{run.name}: failed", *text.splitlines()[-LAST_LINES:]])
+
+
 def run_all(runs: list[Run], programs: dict[str, str], say: Callable[[str], None]) -> list[str]:
-    """The names of those that failed, each with the last lines that it said."""
-    failed = []
-    for run in runs:
-        with tempfile.TemporaryFile() as said:
-            has_passed, told = outcome(run, programs, said)
-            if not has_passed:
-                said.seek(0)
-                text = said.read().decode(errors="replace").rstrip()
-                say(text)
-                failed.append("\n    ".join([f"{run.name}: failed", *text.splitlines()[-LAST_LINES:]]))
-        say(f"{run.name}: {told}")
-    return failed
+    """Those that failed, as `failure` tells of them."""
+    failed = {run.name: told for run in runs if (told := failure(run, programs, say))}
+    for run in [run for run in runs if run.is_timed and run.name in failed]:
+        say(f"{run.name}: once more, since it depends on time")
+        failed[run.name] = failure(run, programs, say)
+    return [told for told in failed.values() if told]
 
 
 def main(words: list[str]) -> int:

@@ -35,6 +35,7 @@ from tools.tests.signals import SIGNALS, hidden_in, signalled
 
 RUNS = ("Examples", "Forms", "Maps BadInput", "$H2AUDIT Imports Answers")
 QUICK = True
+TIMED = True
 TOP = pathlib.Path(__file__).resolve().parents[3]
 PROGRAM = companion("h2audit-comment")
 IMPORT = companion("h2audit-import")

@@ -23,6 +23,7 @@ from tools.tests.companions import companion
 from tools.tests.legs_written import mixed
 
 RUNS = ("$H2AUDIT",)
+TIMED = True
 TOP = pathlib.Path(__file__).resolve().parents[3]
 PROGRAM = str(next(iter(named()), ""))
 EXAMPLE = TOP / "examples" / "paused_stream_node.pcap"
@@ -30,8 +31,11 @@ IMPORT, ANY, WHY, COMMENT = (companion(f"h2audit-{name}") for name in ("import",
 SPLIT = TOP / "tools" / "tests" / "fleet" / "split_stand_in"
 PAGE, FLEET = (TOP / "tools" / f"h2audit-{name}" for name in ("page", "fleet"))
 PATIENCE = 120
-# A shown line is gone for the time that a stopped program needs to go on, and is written twice a second.
-STOPPED, GOING = 0.55, 0.01
+# A line is due when the work has taken two seconds, and then twice a second; between its stops a program goes on for
+# so long, which a quick machine needs for some MB.
+FIRST_STOP, STOPPED, GOING = 2.1, 0.55, 0.01
+# What a program reads to its end before it can be stopped is made larger.
+SIZES = (30_000_000, 120_000_000, 480_000_000)
 ENVIRONMENT = {**os.environ, "H2AUDIT": PROGRAM, "NO_COLOR": "1", "COLUMNS": "100", "H2AUDIT_WHY": str(WHY)}
 
 
@@ -95,7 +99,7 @@ class Terminal:
             if self.child.poll() is not None:
                 return False
             self.child.send_signal(signal.SIGSTOP)
-            time.sleep(STOPPED)
+            time.sleep(STOPPED if self.text else FIRST_STOP)
             self.child.send_signal(signal.SIGCONT)
             self.read(GOING)
         return True
@@ -127,13 +131,9 @@ def slow_h2audit(then: str = 'exec "$PROGRAM" "$@"') -> Iterator[None]:
             ENVIRONMENT.update({"H2AUDIT": PROGRAM, "PATH": before})
 
 
-@contextlib.contextmanager
-def large_capture() -> Iterator[pathlib.Path]:
-    with tempfile.TemporaryDirectory() as folder:
-        path = pathlib.Path(folder, "large.pcap")
-        with open(path, "wb") as file:
-            generate.SHAPES["mixed"](wire.Capture(file), 30_000_000)
-        yield path
+def write_large(path: pathlib.Path, size: int) -> None:
+    with open(path, "wb") as file:
+        generate.SHAPES["mixed"](wire.Capture(file), size)
 
 
 class Lines(unittest.TestCase):
@@ -191,21 +191,35 @@ class Lines(unittest.TestCase):
 class Files(unittest.TestCase):
     """How much there is of files is known: in one connection too, and in both walks."""
 
+    def are_shown(self, path: pathlib.Path, wanted: list[str], *words: object) -> bool:
+        """Whether these lines were shown, in this order; False where the program ended before one was."""
+        # What is stopped is the program alone: a quick h2audit would be done before its line says so.
+        with slow_h2audit(), terminal(*words, path) as one:
+            shown = all(one.slow_down(line) for line in wanted)
+            self.assertIn(one.end(), (0, 1), one.text)
+        self.assertEqual(screen(one.text), [""])
+        return shown
+
     def test_stages(self) -> None:
-        with large_capture() as path:
-            size = rf"{path.stat().st_size / 1e6:.1f}"
-            programs: list[tuple[pathlib.Path, list[str]]] = [(IMPORT, ["-o", os.devnull]), (ANY, []), (WHY, [])]
-            for program, more in programs:
-                name = program.name
-                # What is stopped is the program alone: a quick h2audit would be done before its line says so.
-                with slow_h2audit(), terminal(program, *more, path) as one:
-                    self.assertTrue(one.slow_down(rf"\r{name}: reading: \d+\.\d of {size} MB, \d+ %"), one.text)
-                    if program == WHY:
-                        self.assertTrue(one.slow_down(r"\rh2audit-why: auditing"), one.text)
-                        shown = r"\rh2audit-why: explaining: \d+\.\d of \d+\.\d MB, \d+ %"
-                        self.assertTrue(one.slow_down(shown), one.text)
-                    self.assertIn(one.end(), (0, 1))
-                self.assertEqual(screen(one.text), [""])
+        explained = [r"\rh2audit-why: auditing", r"\rh2audit-why: explaining: \d+\.\d of \d+\.\d MB, \d+ %"]
+        programs: dict[str, tuple[list[object], list[str]]] = {
+            "h2audit-import": ([IMPORT, "-o", os.devnull], []),
+            "h2audit-any": ([ANY], []),
+            "h2audit-why": ([WHY], explained),
+        }
+        with tempfile.TemporaryDirectory() as folder:
+            path = pathlib.Path(folder, "large.pcap")
+            for size in SIZES:
+                write_large(path, size)
+                read = rf"reading: \d+\.\d of {path.stat().st_size / 1e6:.1f} MB, \d+ %"
+                programs = {
+                    name: (words, more)
+                    for name, (words, more) in programs.items()
+                    if not self.are_shown(path, [rf"\r{name}: {read}", *more], *words)
+                }
+                if not programs:
+                    return
+        self.fail(f"ended before their lines were shown: {', '.join(programs)}")
 
     def test_page(self) -> None:
         """It hands on what h2audit-why says of its work."""
@@ -216,14 +230,14 @@ class Files(unittest.TestCase):
 
     def test_both_legs(self) -> None:
         """The further pass over the frames of a proxy's two sides."""
+        shown = r"\rh2audit-why: explaining both legs: \d+\.\d of \d+\.\d MB, \d+ %"
         with tempfile.TemporaryDirectory() as folder:
             path = pathlib.Path(folder, "legs.pcap")
-            path.write_bytes(mixed(10_000, True))
-            with terminal(WHY, path) as one:
-                shown = r"\rh2audit-why: explaining both legs: \d+\.\d of \d+\.\d MB, \d+ %"
-                self.assertTrue(one.slow_down(shown), one.text)
-                self.assertEqual(one.end(), 0, one.text)
-        self.assertEqual(screen(one.text), [""])
+            for requests in (10_000, 40_000, 160_000):
+                path.write_bytes(mixed(requests, True))
+                if self.are_shown(path, [shown], WHY):
+                    return
+        self.fail("ended before its line was shown")
 
     def test_fleet(self) -> None:
         """Captures, and bytes of captures."""

@@ -120,7 +120,8 @@ class Stated(InScratch):
         self.assertEqual(one.command({"$SPLIT": "/s"}), ["/usr/bin/python3", "-m", "tools.tests.room.a_test", "/s"])
 
     def test_unclear(self) -> None:
-        for line in ("# RUNS = WORDS", '# RUNS = "one"', "# LIMIT = None", "# QUICK = 'one'", '# QUICK = ("one",)'):
+        lists = ["# QUICK = 'one'", '# QUICK = ("one",)', "# TIMED = 1", '# TIMED = ("one",)']
+        for line in ["# RUNS = WORDS", '# RUNS = "one"', "# LIMIT = None", *lists]:
             with self.subTest(line=line), self.assertRaises(Unclear):
                 list(runs_of(self.script("a", line)))
 
@@ -140,6 +141,21 @@ class Made(InScratch):
         self.script("b")
         last = ["1 of 2 passed", "room/a: failed", *(f"    {word}" for word in said[1:])]
         self.assertEqual(self.ran(), (1, [*said, "room/a: failed, status 3", "room/b: passed", *last]))
+
+    def test_once_more(self) -> None:
+        """One that depends on time is made twice if it fails, when the others have ended; no other one is."""
+        late = self.room / "late"
+        self.script(
+            "a", '# RUNS = ("one", "two")', '# TIMED = ("one",)', f"[ -e {late} ] || {{ touch {late}; exit 1; }}"
+        )
+        self.script("b")
+        said = ["room/a one: failed, status 1", "room/a two: passed", "room/b: passed"]
+        again = "room/a one: once more, since it depends on time"
+        self.assertEqual(self.ran(), (0, [*said, again, "room/a one: passed", "3 of 3 passed"]))
+        self.script("a", "# TIMED = True", "exit 1")
+        said, again = ["room/a: failed, status 1", "room/b: passed"], "room/a: once more, since it depends on time"
+        last = [again, "room/a: failed, status 1", "1 of 2 passed", "room/a: failed"]
+        self.assertEqual(self.ran(), (1, [*said, *last]))
 
     def test_left_out(self) -> None:
         """A run that needs proved programs fails where there are none."""

@@ -19,6 +19,7 @@ from h2audit.report import VERSION
 from tools import version
 from tools.tests.companions import companion
 
+TIMED = True
 TOP = pathlib.Path(__file__).resolve().parents[3]
 MAN = TOP / "tools" / "man"
 COMPLETIONS = TOP / "tools" / "completions"

@@ -26,6 +26,7 @@ from tools.tests.request_captures import block
 from tools.tests.why_tools import LONGEST_NAME, said_of
 
 RUNS = ("$H2AUDIT Misfortunes", "$H2AUDIT Names Owner", "$H2AUDIT Large")
+TIMED = True
 EXAMPLES = ("paused_stream_node", "stream_overrun_go")
 ASKED = "outcome, status, reason, tries, requests"
 

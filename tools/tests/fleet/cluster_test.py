@@ -15,6 +15,7 @@ import unittest
 from tools.tests.fleet.captures import PATIENCE, Machine, by_hand, count, summary, until
 
 RUNS = ("Tls", "TwoMachines")
+TIMED = True
 # What is started ends with this program, however that ends.
 TIED = ("setpriv", "--pdeathsig", "KILL", "--")
 A, B = "192.0.2.1", "192.0.2.2"

@@ -44,6 +44,7 @@ RUNS = (
     "Writer",
 )
 QUICK = ("$H2AUDIT Tables", "Words Schema")
+TIMED = True
 CAPTURES = 200
 NOTHING_READ = 6
 # Captures of which an import reads more than h2audit, or says why it does not.

@@ -23,6 +23,7 @@ from tools.tests.fleet.captures import PATIENCE, PROGRAM, beside, until
 from tools.tests.fleet.cluster_test import Cluster
 
 RUNS = ("$H2AUDIT Forms", "$H2AUDIT Misfortunes", "$H2AUDIT OnCluster")
+TIMED = ("$H2AUDIT OnCluster",)
 # What two runs may differ in.
 OF_ONE_RUN = {"seconds", "worker", "entered"}
 TABLES = ("captures", "connections", "findings", "stalls", "unopened", "passed_over")

@@ -36,6 +36,7 @@ from tools.tests.peers import RawClient, can_capture, folder_to_serve, nghttpd
 
 RUNS = ("$H2AUDIT BesideTcpdump", "$H2AUDIT Files Carrying Rings")
 QUICK = ("$H2AUDIT Files Carrying Rings",)
+TIMED = True
 ROUNDS = 9
 EXAMPLE = (TOP / "examples" / "paused_stream_node.pcap").read_bytes()
 USED_AFTER_RESET = (TOP / "examples" / "use_after_reset.pcap").read_bytes()

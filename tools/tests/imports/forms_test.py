@@ -25,6 +25,7 @@ from tools.tests.packages import needs
 from tools.tests.pcapng_blocks import block, interface, packet, section
 
 QUICK = True
+TIMED = True
 NAME = "nghttp-nghttpd-13"
 PCAP = tools.capture_named(NAME).read_bytes()
 KEYS = tools.key_log_of(NAME)

@@ -30,6 +30,7 @@ from tools.tests import import_tools as tools
 from tools.tests import tls_talk
 
 RUNS = ("$H2AUDIT",)
+TIMED = True
 PROGRAM = next(iter(named()), None)
 EXAMPLE = tools.EXAMPLES / "stream_overrun_go.pcap"
 # What python3-cryptography has no cipher for, and what needs another kind of key exchange than a certificate.

@@ -31,6 +31,7 @@ from tools.tests.browser import Browser
 from tools.tests.page.page_test import FINDING, crowded, large
 
 RUNS = ("Examples Hands Schemes Hostile Merged", "Large", "Crowded")
+TIMED = True
 TOP = pathlib.Path(__file__).resolve().parents[3]
 PROGRAM = TOP / "tools" / "h2audit-page"
 EXAMPLES = TOP / "examples"

@@ -27,6 +27,7 @@ from tools.tests.why_tools import TOP, WHY, has_programs, programs_of
 
 RUNS = ("$H2AUDIT",)
 QUICK = True
+TIMED = True
 PAGE = TOP / "tools" / "h2audit-page"
 EXAMPLES = sorted((TOP / "examples").glob("*.pcap"))
 

@@ -28,6 +28,7 @@ from tools.tests.page_forms import page_of as page_of_capture
 from tools.tests.why_tools import TOP, has_programs, programs_of
 
 RUNS = ("$H2AUDIT",)
+TIMED = True
 EXAMPLE = TOP / "examples" / "slow_client_haproxy.pcap.gz"
 MOST_BYTES = 5_000_000
 # The bars of a row, by its title, that say whose an instant was: who, begin and end in parts of the row's life.

@@ -25,6 +25,7 @@ from tools.tests.running import ran
 from tools.tests.signals import SIGNALS, signalled
 
 QUICK = True
+TIMED = True
 TOP = pathlib.Path(__file__).resolve().parents[3]
 PROGRAM = TOP / "tools" / "h2audit-page"
 EXAMPLES = TOP / "examples"

@@ -20,6 +20,7 @@ from tools.tests.running import ran
 from tools.tests.signals import SIGNALS, hidden_in, signalled
 
 QUICK = True
+TIMED = True
 TOP = pathlib.Path(__file__).resolve().parents[3]
 
 PROGRAM = TOP / "tools" / "h2audit-plot"

@@ -16,6 +16,7 @@ from tools.tests.kinds import FRAME_TYPES, KINDS, NOBODY
 from tools.tests.signals import SIGNALS, hidden_in, signalled
 
 QUICK = True
+TIMED = True
 TOP = pathlib.Path(__file__).resolve().parents[3]
 
 DOCS = TOP / "docs"

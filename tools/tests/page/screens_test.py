@@ -22,6 +22,7 @@ from tools.tests.page_forms import page_of as page_of_capture
 from tools.tests.why_tools import TOP, has_programs, programs_of, words_for
 
 RUNS = ("$H2AUDIT",)
+TIMED = True
 CAPTURES = [path for folder in ("examples", "tests/answer") for path in sorted((TOP / folder).glob("*.pcap"))]
 LONG = "stalled 2 s (98 %): the client's window of 65,535 bytes was used up again and again, " * 5 + "and that is all"
 LIFE = "2.05 s: the client's window 2 s (98 %), the server 50 ms (2 %)"

@@ -17,6 +17,7 @@ from selenium.webdriver.support.ui import Select
 from tools.tests.page.answers import FLOWS, HEAD, MS, finding, many, opening, page_of, stalled
 from tools.tests.page.browser_test import EXAMPLES, PIXELS, InBrowser, colour
 
+TIMED = True
 TOP = pathlib.Path(__file__).resolve().parents[3]
 
 ACCESSIBLE = (TOP / "tools" / "tests" / "page" / "accessible.js").read_text()

@@ -21,6 +21,7 @@ from tools.tests.why.wire import SERVER, Loses, captured_at, wire
 from tools.tests.why_tools import TOP, Json, has_programs, programs_of, ran
 
 RUNS = ("$H2AUDIT Generated", "$H2AUDIT Wire")
+TIMED = ("$H2AUDIT Wire",)
 ROUND_TRIP = 0.16
 PORT = 8080
 

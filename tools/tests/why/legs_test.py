@@ -28,6 +28,7 @@ from tools.tests.why_tools import has_programs, programs_of
 
 RUNS = ("$H2AUDIT", "$H2AUDIT --make causes", "$H2AUDIT --make traffic")
 LIMIT = 2400
+TIMED = ("$H2AUDIT --make causes", "$H2AUDIT --make traffic")
 README = LEGS / "README.md"
 LARGEST_OF_ALL = 3_000_000
 # Shares of what has to be right: pairs that are called sure, by groups, and whom to ask.

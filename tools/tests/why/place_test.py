@@ -15,6 +15,7 @@ from tools.tests.why.wire import SERVER, Loses, captured_at, wire
 from tools.tests.why_tools import Json, has_programs, programs_of, request_of, said_of
 
 RUNS = ("$H2AUDIT",)
+TIMED = True
 ROUND_TRIP = 0.16
 PORT = 8080
 

@@ -24,6 +24,7 @@ from tools.tests.why.stage import Stage
 from tools.tests.why_tools import TOP, Json, has_programs, programs_of, said_of, text
 
 RUNS = ("$H2AUDIT", "$H2AUDIT --make")
+TIMED = ("$H2AUDIT --make",)
 CAUSES = TOP / "tests" / "causes"
 README = CAUSES / "README.md"
 HELD = CAUSES / "held.tsv"

@@ -19,6 +19,7 @@ from tools.tests.companions import UNREAD, companion
 from tools.tests.why_tools import TOP, WHY, OnCaptures, has_programs, programs_of, ran, said_of
 
 RUNS = ("$H2AUDIT",)
+TIMED = True
 
 
 def records_of(capture: bytes) -> Iterator[bytes]:
