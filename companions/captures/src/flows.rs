@@ -107,6 +107,16 @@ impl Flow {
         self.held = None;
     }
 
+    /// Goes on by bytes which are the next ones, if nothing is missing before them. Answers whether that is so.
+    #[inline]
+    pub fn goes_on(&mut self, offset: u32, length: usize) -> bool {
+        let goes_on = offset == self.next && !self.has_hole() && length <= (END_OF_OFFSETS - offset) as usize;
+        if goes_on {
+            self.next += length as u32;
+        }
+        goes_on
+    }
+
     /// The bytes that are in order now.
     #[inline]
     pub fn add<'a>(&mut self, offset: u32, data: &'a [u8], arrival: Arrival) -> Cow<'a, [u8]> {

@@ -175,28 +175,46 @@ impl Cutter {
         wants: impl Fn(&Head) -> usize + Copy,
         mut give: impl FnMut(&Cut<'_>),
     ) {
-        let (mut rest, times) = (self.behind_preface(bytes), [time]);
+        let mut rest = self.behind_preface(bytes);
         while !rest.is_empty() {
-            let arrived;
-            let cut = match self.whole(rest, wants) {
-                Some((head, payload, behind)) => {
-                    rest = behind;
-                    arrived = [HEADER as u32 + head.length];
-                    Cut { head, payload, times: &times, arrived: &arrived }
-                }
-                None => {
-                    rest = self.on(rest, time, wants);
-                    match self.unfinished().filter(|_| self.rest == 0) {
-                        Some(cut) => cut,
-                        None => continue,
-                    }
-                }
-            };
-            give(&cut); // at one place, so that it is made a part of this
-            if self.begun > 0 {
-                self.let_go();
-            }
+            rest = self.take_one(rest, time, wants, &mut give);
         }
+    }
+
+    /// Whether the next byte behind the preface begins a frame.
+    #[inline]
+    pub fn is_between_frames(&self) -> bool {
+        self.begun == 0
+    }
+
+    /// Likewise up to the end of one frame, of bytes behind the preface. Answers what stands behind it.
+    #[inline(always)]
+    pub fn take_one<'a>(
+        &mut self,
+        bytes: &'a [u8],
+        time: Nanos,
+        wants: impl Fn(&Head) -> usize + Copy,
+        mut give: impl FnMut(&Cut<'_>),
+    ) -> &'a [u8] {
+        let (times, arrived);
+        let (cut, rest) = match self.whole(bytes, wants) {
+            Some((head, payload, behind)) => {
+                (times, arrived) = ([time], [HEADER as u32 + head.length]);
+                (Cut { head, payload, times: &times, arrived: &arrived }, behind)
+            }
+            None => {
+                let behind = self.on(bytes, time, wants);
+                match self.unfinished().filter(|_| self.rest == 0) {
+                    Some(cut) => (cut, behind),
+                    None => return behind,
+                }
+            }
+        };
+        give(&cut); // at one place, so that it is made a part of this
+        if self.begun > 0 {
+            self.let_go();
+        }
+        rest
     }
 
     /// The bytes behind the preface.

@@ -63,8 +63,14 @@ impl Followed {
         self.joiner.waiting() + self.encrypted.as_ref().map_or(0, Encrypted::waiting)
     }
 
+    /// Takes a segment of a connection in the clear of which no packets are missing, if its frames are known. Answers
+    /// whether that is so: then no more waits than before, and it is not over.
+    #[inline]
+    pub fn goes_on(&mut self, flow: usize, arrival: Arrival, segment: &Segment<'_>) -> bool {
+        self.encrypted.is_none() && self.joiner.goes_on(flow, &piece_of(arrival, segment))
+    }
+
     /// Takes a segment of a flow: 0 is that of the first segment.
-    #[inline(always)] // most segments are of connections in the clear, and go to what joins them alone
     pub fn take(
         &mut self,
         shared: &mut Shared,

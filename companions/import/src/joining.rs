@@ -112,11 +112,29 @@ impl Joining {
     }
 
     fn follow(&mut self, shared: &mut Shared, stray: Stray, arrival: Arrival, segment: &Segment<'_>) -> io::Result<()> {
-        let number = stray.pair;
-        let pair = match self.pairs.get_mut(number) {
-            Some(pair) => pair,
+        let goes_on = match self.pairs.get_mut(stray.pair) {
+            Some(Pair::Followed(known)) => known.goes_on(stray.flow, arrival, segment),
+            Some(_) => false,
             None => return Ok(()),
         };
+        if !goes_on && !self.follow_on(shared, stray, arrival, segment)? {
+            return Ok(());
+        }
+        let (source, flow, place) = (Source::Pair(stray.pair), stray.flow, self.place);
+        self.kept.keep(&Datagram { source, flow, arrival, is_plaintext: false, place }, segment)
+    }
+
+    /// Takes a segment that is not simply the next one of a pair in the clear. Answers whether the pair's packets wait.
+    #[inline(never)]
+    fn follow_on(
+        &mut self,
+        shared: &mut Shared,
+        stray: Stray,
+        arrival: Arrival,
+        segment: &Segment<'_>,
+    ) -> io::Result<bool> {
+        let number = stray.pair;
+        let pair = &mut self.pairs[number];
         match pair {
             Pair::Bare(..) if !segment.has_payload() && segment.flags & flags::SYN == 0 => {}
             Pair::Bare(..) if self.followed == MOST_FOLLOWED => {
@@ -140,13 +158,7 @@ impl Joining {
                 self.give_up(oldest, NotJoined::Frames(Unjoined::ManyWaiting));
             }
         }
-        match &self.pairs[number] {
-            Pair::Over(_) => Ok(()),
-            _ => {
-                let (source, flow, place) = (Source::Pair(number), stray.flow, self.place);
-                self.kept.keep(&Datagram { source, flow, arrival, is_plaintext: false, place }, segment)
-            }
-        }
+        Ok(!matches!(self.pairs[number], Pair::Over(_)))
     }
 
     fn give_up(&mut self, number: usize, why: NotJoined) {
@@ -201,8 +213,17 @@ impl Known {
         Known { ends, followed, reach: Reach::default(), share: Share::default(), last: 0 }
     }
 
-    /// Takes a segment, and answers how many bytes wait.
+    /// Takes a segment if it is simply the next one, and answers whether that is so.
     #[inline]
+    fn goes_on(&mut self, flow: usize, arrival: Arrival, segment: &Segment<'_>) -> bool {
+        let goes_on = self.reach.goes_on(flow, segment) && self.followed.goes_on(flow, arrival, segment);
+        if goes_on {
+            self.last = arrival.packet;
+        }
+        goes_on
+    }
+
+    /// Takes a segment, and answers how many bytes wait.
     fn take(
         &mut self,
         shared: &mut Shared,

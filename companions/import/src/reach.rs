@@ -2,7 +2,7 @@
 
 use std::collections::BTreeMap;
 
-use captures::{flags, placed, Arrival, Segment, END_OF_OFFSETS};
+use captures::{flags, offset_of, placed, Arrival, Segment, END_OF_OFFSETS};
 
 /// Both sides. Offsets count from a side's first byte.
 #[derive(Default)]
@@ -99,6 +99,23 @@ impl Reach {
         if segment.has_payload() && segment.flags & flags::RST == 0 {
             self.take_payload(side, arrival, segment);
         }
+    }
+
+    /// Likewise if it brings what comes next, and nothing is missing. Answers whether that is so.
+    #[inline]
+    pub fn goes_on(&mut self, side: usize, segment: &Segment<'_>) -> bool {
+        let (length, one) = (segment.end - segment.start, &self.sides[side]);
+        let offset = match one.initial {
+            Some(initial) if self.pieces() == 0 => offset_of(initial, segment.sequence, segment.flags),
+            _ => return false,
+        };
+        let is_next = offset == one.next && length <= (END_OF_OFFSETS - offset) as usize;
+        if !is_next || length == 0 || segment.flags & flags::RST != 0 {
+            return length == 0;
+        }
+        self.is_snapped |= segment.is_snapped;
+        self.sides[side].next += length as u32;
+        true
     }
 
     fn take_payload(&mut self, side: usize, arrival: Arrival, segment: &Segment<'_>) {

@@ -142,8 +142,8 @@ struct Open {
 
 impl Open {
     fn of(id: u32, window: &crate::windows::BoundedWindow) -> Open {
-        let evidence = window.open.as_deref().cloned().unwrap_or_default();
-        Open { id, evidence, is_refused: window.is_refused, least: window.least }
+        let evidence = window.open().cloned().unwrap_or_default();
+        Open { id, evidence, is_refused: window.is_refused, least: window.least() }
     }
 
     /// Where all contents, or the bound, are 2^k - 1 bytes, the stream's window is the likely reason. If the connection's

@@ -3,10 +3,10 @@
 use std::collections::VecDeque;
 
 use captures::Arrival;
-use cutter::{flag, kind, Cut, Head, Nanos};
+use cutter::{flag, kind, Cut, Head, Nanos, HEADER};
 use hpack::{speaker, Speaker};
 
-use crate::incoming::Given;
+use crate::incoming::{Given, Taker};
 use crate::sides::Sides;
 use crate::streams::Streams;
 use crate::windows::{BoundedWindow, Content, Sender};
@@ -64,15 +64,6 @@ impl JoinedCourse {
         }
     }
 
-    /// Takes what comes of a flow.
-    #[inline]
-    pub fn take(&mut self, flow: usize, given: Given<'_, '_>) {
-        match given {
-            Given::Begins(last) => self.begins(flow, last),
-            Given::Frame(cut) => self.frame(flow, cut),
-        }
-    }
-
     #[inline(never)]
     fn begins(&mut self, flow: usize, last: Arrival) {
         self.senders[flow] = Sender::new(last.nanos);
@@ -106,11 +97,11 @@ impl JoinedCourse {
         }
     }
 
-    #[inline]
+    #[inline(never)]
     fn content(&mut self, flow: usize, head: Head, first: Nanos, last: Nanos) {
         let Head { length, stream, .. } = head;
         let is_end = head.has(flag::END_STREAM);
-        self.sides.content(flow, length);
+        self.sides.content(flow, u64::from(length));
         let (own, other) = match self.streams.get(stream).map(|found| &mut found.windows) {
             Some([own, other]) if flow == 0 => (Some(own), Some(other)),
             Some([other, own]) => (Some(own), Some(other)),
@@ -188,7 +179,7 @@ impl JoinedCourse {
             let window = &mut found.windows[1 - flow];
             if is_refused {
                 window.is_refused = true;
-                self.senders[1 - flow].is_initial_refused |= window.open.is_none();
+                self.senders[1 - flow].is_initial_refused |= window.open().is_none();
             }
         }
         self.streams.end(stream, &[0, 1]);
@@ -237,6 +228,71 @@ impl JoinedCourse {
     }
 }
 
+impl Taker for JoinedCourse {
+    #[inline]
+    fn given(&mut self, flow: usize, given: Given<'_, '_>) {
+        match given {
+            Given::Begins(last) => self.begins(flow, last),
+            Given::Frame(cut) => self.frame(flow, cut),
+        }
+    }
+
+    /// Takes content, as it is most of what comes.
+    #[inline]
+    fn frames(&mut self, flow: usize, bytes: &[u8], time: Nanos) -> usize {
+        let mut rest = bytes;
+        while let Some((head, behind)) = content_at(rest) {
+            let after = self.plain_contents(flow, rest, time);
+            if after.len() < rest.len() {
+                rest = after;
+                continue;
+            }
+            rest = behind;
+            self.frames += 1;
+            self.longest[flow] = self.longest[flow].max(head.length);
+            self.content(flow, head, time, time);
+        }
+        bytes.len() - rest.len()
+    }
+}
+
+impl JoinedCourse {
+    /// Takes contents at the beginning of bytes by which nothing changes but credits, and answers what stands behind.
+    #[inline(never)]
+    fn plain_contents<'a>(&mut self, flow: usize, bytes: &'a [u8], time: Nanos) -> &'a [u8] {
+        let mut rest = bytes;
+        let mut run = match self.senders[flow].run() {
+            Some(run) => run,
+            None => return rest,
+        };
+        while let Some((head, behind)) = content_at(rest) {
+            let [own, other] = match self.streams.recent(head.stream).map(|found| &mut found.windows) {
+                Some([own, other]) if flow == 0 => [own, other],
+                Some([other, own]) => [own, other],
+                None => break,
+            };
+            if head.length == 0 || head.has(flag::END_STREAM) || !run.takes(own, head.length) {
+                break;
+            }
+            other.spoken(time);
+            rest = behind;
+        }
+        let (contents, content, longest) = run.end(time);
+        self.frames += u64::from(contents);
+        self.longest[flow] = longest.max(self.longest[flow]);
+        self.sides.content(flow, content as u64);
+        rest
+    }
+}
+
+/// A whole frame of content at the beginning of bytes, and what stands behind it.
+#[inline(always)]
+fn content_at(bytes: &[u8]) -> Option<(Head, &[u8])> {
+    let head = Head::of(bytes.get(..HEADER)?.try_into().ok()?);
+    let behind = bytes.get(HEADER + head.length as usize..)?;
+    (head.kind == kind::DATA).then_some((head, behind))
+}
+
 fn speaker_of(cut: &Cut<'_>, fields: usize) -> Option<Speaker> {
     let (begin, end) = cut.body(fields)?;
     speaker(cut.payload.get(begin..end.min(cut.payload.len()))?)
@@ -248,7 +304,7 @@ mod tests {
 
     fn taken(course: &mut JoinedCourse, flow: usize, kind: u8, flags: u8, stream: u32, payload: &[u8]) {
         let head = Head { length: payload.len() as u32, kind, flags, stream };
-        course.take(flow, Given::Frame(&Cut { head, payload, times: &[0], arrived: &[] }));
+        course.given(flow, Given::Frame(&Cut { head, payload, times: &[0], arrived: &[] }));
     }
 
     fn open_ones(course: &JoinedCourse) -> Vec<u32> {

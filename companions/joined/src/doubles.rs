@@ -14,13 +14,23 @@ pub struct Doubles {
     pub doubled: u64,
 }
 
+fn print_of(piece: &Piece<'_>) -> u64 {
+    let length = piece.payload.len() as u16;
+    u64::from(piece.sequence) << 32 | u64::from(length) << 16 | u64::from(piece.identification)
+}
+
 impl Doubles {
     pub fn add(&mut self, piece: &Piece<'_>) {
-        let length = piece.payload.len() as u16;
-        let print = u64::from(piece.sequence) << 32 | u64::from(length) << 16 | u64::from(piece.identification);
+        let print = print_of(piece);
         let is_there = self.recent.iter().fold(false, |is_there, one| is_there | (*one == print));
         self.doubled += u64::from(is_there && piece.identification != 0);
-        self.recent[self.segments as usize % MOST_BETWEEN] = print;
+        self.add_first(piece);
+    }
+
+    /// Adds a packet that brings bytes which none before it brought.
+    #[inline]
+    pub fn add_first(&mut self, piece: &Piece<'_>) {
+        self.recent[self.segments as usize % MOST_BETWEEN] = print_of(piece);
         self.segments += 1;
     }
 }

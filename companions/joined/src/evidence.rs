@@ -55,11 +55,11 @@ impl Pause {
         Some((self.since, self.granted?))
     }
 
-    /// Whether content that comes then ends a pause that a grant ended; `spoken` is when the other side sent something
+    /// Whether content that comes then ends a pause that a grant ended; `spoken` is when the other side last sent something
     /// else that the content may answer.
-    pub fn touch(&self, content: Nanos, spoken: Option<Nanos>) -> Option<Touch> {
+    pub fn touch(&self, content: Nanos, spoken: Nanos) -> Option<Touch> {
         let granted = self.granted?;
-        if spoken.map_or(false, |spoken| spoken >= self.since) {
+        if spoken >= self.since {
             return None;
         }
         let (pause, delay) = (granted.saturating_sub(self.since), content.saturating_sub(granted));
@@ -225,7 +225,7 @@ mod tests {
         usual
     }
 
-    fn touch(pause: Nanos, delay: Nanos, spoken: Option<Nanos>) -> Option<Touch> {
+    fn touch(pause: Nanos, delay: Nanos, spoken: Nanos) -> Option<Touch> {
         let mut one = Pause::behind(0, 1000, false);
         one.grant(pause);
         one.grant(pause + 1);
@@ -233,7 +233,7 @@ mod tests {
     }
 
     fn bits(pause: Nanos, delay: Nanos) -> Option<f64> {
-        touch(pause, delay, None).map(|touch| touch.bits(&usual()))
+        touch(pause, delay, Nanos::MIN).map(|touch| touch.bits(&usual()))
     }
 
     #[test]
@@ -243,8 +243,8 @@ mod tests {
         assert!(bits(20_480, 10_240).map_or(false, |bits| (5.0..5.5).contains(&bits)));
         assert_eq!(bits(100 * MS, 60 * MS), Some(0.0), "content came late");
         assert_eq!(bits(100 * MS, 50 * MS), Some(7.0));
-        assert_eq!(Pause::behind(0, 9, false).touch(MS, None).map(|touch| touch.pause), None, "no grant");
-        assert!(touch(MS, 1, Some(0)).is_none() && touch(MS, 1, Some(-1)).is_some(), "an answer");
+        assert_eq!(Pause::behind(0, 9, false).touch(MS, Nanos::MIN).map(|touch| touch.pause), None, "no grant");
+        assert!(touch(MS, 1, 0).is_none() && touch(MS, 1, -1).is_some(), "an answer");
     }
 
     #[test]
@@ -254,7 +254,7 @@ mod tests {
         let of = |length, delay| {
             let mut pause = Pause::behind(0, length, false);
             pause.grant(MS);
-            pause.touch(MS + delay, None).expect("a touch")
+            pause.touch(MS + delay, Nanos::MIN).expect("a touch")
         };
         let found: Vec<_> = [of(999, 1), of(999, 1), of(2048, 1), of(2048, 1), of(77, 600_000), of(77, 600_000)]
             .iter()

@@ -1,7 +1,7 @@
 //! The bytes of both flows in the order in which they came, which wait until the first frame of each is known.
 
-use captures::{placed, Arrival, Flow, END_OF_OFFSETS};
-use cutter::{Cut, Cutter};
+use captures::{offset_of, placed, Arrival, Flow, END_OF_OFFSETS};
+use cutter::{Cut, Cutter, Nanos};
 
 use crate::border::{border_of, is_tls, Border};
 use crate::course::wants;
@@ -102,6 +102,23 @@ pub enum Given<'a, 'b> {
     Frame(&'a Cut<'b>),
 }
 
+/// Takes what is given of both flows.
+pub trait Taker {
+    fn given(&mut self, flow: usize, given: Given<'_, '_>);
+
+    /// Of bytes of a flow that begin with a frame and came at that time, may take whole frames by itself. Answers how many
+    /// bytes these have.
+    fn frames(&mut self, _flow: usize, _bytes: &[u8], _time: Nanos) -> usize {
+        0
+    }
+}
+
+impl<Give: FnMut(usize, Given<'_, '_>)> Taker for Give {
+    fn given(&mut self, flow: usize, given: Given<'_, '_>) {
+        self(flow, given);
+    }
+}
+
 /// Bytes that came together.
 struct Mark {
     flow: usize,
@@ -133,7 +150,7 @@ impl Both {
     }
 
     /// Takes what a flow brings, and gives the frames that are known then, each with its flow.
-    pub fn take(&mut self, flow: usize, piece: &Piece<'_>, mut give: impl FnMut(usize, Given<'_, '_>)) {
+    pub fn take(&mut self, flow: usize, piece: &Piece<'_>, taker: &mut impl Taker) {
         let initial = self.begin(flow, piece);
         let one = &mut self.flows[flow];
         let (offset, data) = match placed(initial, piece.sequence, piece.flags, piece.payload) {
@@ -147,15 +164,51 @@ impl Both {
             return;
         }
         if self.goes_on && one.border.is_some() {
-            self.cutters[flow].take(&data, time, wants, |cut| give(flow, Given::Frame(cut)));
-            return;
+            return self.cut(flow, &data, time, taker);
         }
         one.bytes.extend_from_slice(&data);
         self.marks.push(Mark { flow, arrival: piece.arrival, length: data.len() });
         one.look(false);
         let is_full = one.bytes.len() >= MOST_WAITING;
         if self.flows.iter().all(|one| one.border.is_some()) || is_full {
-            self.go_on(is_full, &mut give);
+            self.go_on(is_full, taker);
+        }
+    }
+
+    /// Takes what a flow brings next, while nothing waits: frames of that flow are read as they come, and nothing is
+    /// missing of either. Answers whether that is so; nothing is taken otherwise.
+    #[inline]
+    pub fn goes_on(&mut self, flow: usize, piece: &Piece<'_>, taker: &mut impl Taker) -> bool {
+        let other = &self.flows[1 - flow].flow;
+        if !self.goes_on || other.has_hole() {
+            return false;
+        }
+        let (one, payload) = (&mut self.flows[flow], piece.payload);
+        let offset = match (one.initial, one.border) {
+            (Some(_), _) if payload.is_empty() => return !one.flow.has_hole(),
+            (Some(initial), Some(_)) => offset_of(initial, piece.sequence, piece.flags),
+            _ => return false,
+        };
+        let goes_on = offset < END_OF_OFFSETS && one.flow.goes_on(offset, payload.len());
+        if goes_on {
+            self.cut(flow, payload, piece.arrival.nanos, taker);
+        }
+        goes_on
+    }
+
+    /// Takes bytes of a flow whose frames are read as they come.
+    #[inline]
+    fn cut(&mut self, flow: usize, bytes: &[u8], time: Nanos, taker: &mut impl Taker) {
+        let cutter = &mut self.cutters[flow];
+        let mut rest = bytes;
+        while !rest.is_empty() {
+            if cutter.is_between_frames() {
+                rest = &rest[taker.frames(flow, rest, time)..];
+                if rest.is_empty() {
+                    break;
+                }
+            }
+            rest = cutter.take_one(rest, time, wants, |cut| taker.given(flow, Given::Frame(cut)));
         }
     }
 
@@ -173,12 +226,12 @@ impl Both {
     }
 
     /// The end: what is there is all.
-    pub fn finish(&mut self, mut give: impl FnMut(usize, Given<'_, '_>)) {
-        self.go_on(true, &mut give);
+    pub fn finish(&mut self, taker: &mut impl Taker) {
+        self.go_on(true, taker);
     }
 
     /// Says of what waits when the last byte before a border came.
-    fn begin_flows(&self, give: &mut impl FnMut(usize, Given<'_, '_>)) {
+    fn begin_flows(&self, taker: &mut impl Taker) {
         for (flow, one) in self.flows.iter().enumerate() {
             let rest = match one.border {
                 Some(border) if border.at > one.gone as usize => border.at - one.gone as usize,
@@ -189,17 +242,17 @@ impl Both {
                 end += mark.length;
                 end >= rest
             });
-            last.iter().for_each(|mark| give(flow, Given::Begins(mark.arrival)));
+            last.iter().for_each(|mark| taker.given(flow, Given::Begins(mark.arrival)));
         }
     }
 
     /// Reads the frames of all bytes that wait. Those of a flow without a border are forgotten where no more wait.
-    fn go_on(&mut self, is_full: bool, give: &mut impl FnMut(usize, Given<'_, '_>)) {
+    fn go_on(&mut self, is_full: bool, taker: &mut impl Taker) {
         if is_full {
             self.flows.iter_mut().for_each(|one| one.look(true));
         }
         self.goes_on = true;
-        self.begin_flows(give);
+        self.begin_flows(taker);
         let mut places = [0; 2];
         for Mark { flow, arrival, length } in std::mem::take(&mut self.marks) {
             let one = &self.flows[flow];
@@ -210,7 +263,7 @@ impl Both {
                 None => continue,
             };
             let bytes = &one.bytes[begin.max(border).min(begin + length)..begin + length];
-            self.cutters[flow].take(bytes, arrival.nanos, wants, |cut| give(flow, Given::Frame(cut)));
+            self.cutters[flow].take(bytes, arrival.nanos, wants, |cut| taker.given(flow, Given::Frame(cut)));
         }
         for one in &mut self.flows {
             one.gone += one.bytes.len() as u32;
@@ -244,7 +297,9 @@ mod tests {
     /// Streams of frames, with their flows.
     fn taken(both: &mut Both, flow: usize, sequence: u32, payload: &[u8]) -> Vec<(usize, u32)> {
         let mut seen = Vec::new();
-        both.take(flow, &piece(sequence, payload), |flow, given| seen.extend(stream_of(flow, given)));
+        both.take(flow, &piece(sequence, payload), &mut |flow, given: Given<'_, '_>| {
+            seen.extend(stream_of(flow, given))
+        });
         seen
     }
 
@@ -265,7 +320,7 @@ mod tests {
         let mut both = Both::default();
         taken(&mut both, 1, 5, &frame(3, 50));
         let mut seen = Vec::new();
-        both.finish(|flow, given| seen.extend(stream_of(flow, given)));
+        both.finish(&mut |flow, given: Given<'_, '_>| seen.extend(stream_of(flow, given)));
         assert_eq!(seen, [(1, 3)]);
         assert!(both.flows[0].border().is_none());
     }
@@ -277,7 +332,9 @@ mod tests {
         taken(&mut both, 0, 3, b"st");
         taken(&mut both, 0, 5, &frame(5, 100).repeat(2));
         let mut times = Vec::new();
-        both.finish(|_, given| times.extend(if let Given::Begins(last) = given { Some(last.nanos) } else { None }));
+        both.finish(&mut |_, given: Given<'_, '_>| {
+            times.extend(if let Given::Begins(last) = given { Some(last.nanos) } else { None })
+        });
         assert_eq!(times, [3]);
     }
 

@@ -163,10 +163,8 @@ impl Joiner {
     }
 
     /// Takes a segment of a flow: 0 is that of the first segment.
-    #[inline]
     pub fn take(&mut self, flow: usize, piece: &Piece<'_>) {
-        self.goes_back |= piece.arrival.nanos < self.last;
-        self.last = piece.arrival.nanos;
+        self.note_time(piece.arrival);
         if piece.flags & flags::RST != 0 {
             return;
         }
@@ -176,6 +174,29 @@ impl Joiner {
         if !self.is_encrypted {
             self.read(flow, piece);
         }
+    }
+
+    /// Likewise while frames in the clear are read as they come, if nothing comes before or behind its place. Answers
+    /// whether that is so: then no more waits than before, and it is not over.
+    pub fn goes_on(&mut self, flow: usize, piece: &Piece<'_>) -> bool {
+        let has_front = self.is_behind || piece.payload.is_empty() || self.fronts[flow].len() == FRONT;
+        let is_read = has_front && !self.is_encrypted && !self.is_exact;
+        let goes_on =
+            is_read && piece.flags & (flags::SYN | flags::RST) == 0 && self.both.goes_on(flow, piece, &mut self.course);
+        if goes_on {
+            self.note_time(piece.arrival);
+            self.acknowledged[flow] = piece.acknowledgement.or(self.acknowledged[flow]);
+            if !piece.payload.is_empty() {
+                self.doubles[flow].add_first(piece);
+            }
+        }
+        goes_on
+    }
+
+    #[inline]
+    fn note_time(&mut self, arrival: Arrival) {
+        self.goes_back |= arrival.nanos < self.last;
+        self.last = arrival.nanos;
     }
 
     /// What segments hold is encrypted: from here on they tell of TCP alone, and frames come as plaintext.
@@ -200,8 +221,7 @@ impl Joiner {
             self.both.flows[1 - flow].acknowledged(number);
         }
         if self.is_behind {
-            let course = &mut self.course;
-            return self.both.take(flow, piece, |flow, given| course.take(flow, given));
+            return self.both.take(flow, piece, &mut self.course);
         }
         let is_answer = piece.flags & (flags::SYN | flags::ACK) == flags::SYN | flags::ACK;
         if let (true, false, Some(number)) = (is_answer, self.has_payload, piece.acknowledgement) {
@@ -215,8 +235,7 @@ impl Joiner {
         if self.is_exact {
             self.both.begin(flow, piece);
         } else {
-            let course = &mut self.course;
-            self.both.take(flow, piece, |flow, given| course.take(flow, given));
+            self.both.take(flow, piece, &mut self.course);
         }
     }
 
@@ -267,8 +286,7 @@ impl Joiner {
         if self.both.is_tls() {
             return Err(Unjoined::Tls);
         }
-        let course = &mut self.course;
-        self.both.finish(|flow, given| course.take(flow, given));
+        self.both.finish(&mut self.course);
         match () {
             () if self.course.frames == 0 => Err(if self.both.is_tls() { Unjoined::Tls } else { Unjoined::NoFrames }),
             () if self.course.streams.has_too_many() => Err(Unjoined::ManyStreams),

@@ -24,6 +24,7 @@
 mod assumed;
 mod beginning;
 mod border;
+mod bounded;
 mod claims;
 mod course;
 mod doubles;

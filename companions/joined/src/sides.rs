@@ -85,8 +85,8 @@ impl Sides {
         self.client.or_else(by_ports).unwrap_or_else(by_content)
     }
 
-    pub fn content(&mut self, flow: usize, length: u32) {
-        self.content[flow] += u64::from(length);
+    pub fn content(&mut self, flow: usize, length: u64) {
+        self.content[flow] += length;
     }
 
     /// The first thing that is told counts, unless a better one comes.

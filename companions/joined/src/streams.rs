@@ -13,6 +13,9 @@ pub const MOST_OPEN: usize = 1 << 14;
 /// Of so many streams it is known without a search where they stand.
 const MOST_RECENT: usize = 1 << 10;
 
+/// No stream has this number.
+const NONE: (u32, u32) = (u32::MAX, 0);
+
 /// What is known of a stream, by the flow that sends.
 #[derive(Clone, Debug)]
 pub struct Stream {
@@ -55,7 +58,7 @@ impl Streams {
             places: HashMap::default(),
             known: Vec::new(),
             free: Vec::new(),
-            recent: vec![(0, 0)],
+            recent: vec![NONE],
             highest: [0; 2],
             opened: Default::default(),
             open: 0,
@@ -122,7 +125,7 @@ impl Streams {
             None => self.known.push(stream),
         }
         if self.places.len() > self.recent.len() / 2 && self.recent.len() < MOST_RECENT {
-            self.recent = vec![(0, 0); self.recent.len() * 2];
+            self.recent = vec![NONE; self.recent.len() * 2];
         }
         *self.recent_of(id) = (id, place);
         place
@@ -130,7 +133,7 @@ impl Streams {
 
     #[inline]
     fn recent_of(&mut self, id: u32) -> &mut (u32, u32) {
-        let mask = self.recent.len() - 1;
+        let mask = self.recent.len().wrapping_sub(1);
         &mut self.recent[(id / 2) as usize & mask]
     }
 
@@ -139,15 +142,24 @@ impl Streams {
         if let Some(place) = self.places.remove(&id) {
             self.open -= usize::from(self.known[place as usize].was_open);
             self.free.push(place);
-            *self.recent_of(id) = (0, 0);
+            *self.recent_of(id) = NONE;
         }
     }
 
     #[inline]
     fn place_of(&mut self, id: u32) -> Option<u32> {
         match *self.recent_of(id) {
-            (recent, place) if recent == id && id != 0 => Some(place),
+            (recent, place) if recent == id => Some(place),
             _ => self.search(id),
+        }
+    }
+
+    /// A stream that was asked for before.
+    #[inline(always)]
+    pub fn recent(&mut self, id: u32) -> Option<&mut Stream> {
+        match *self.recent_of(id) {
+            (recent, place) if recent == id => self.known.get_mut(place as usize),
+            _ => None,
         }
     }
 

@@ -10,19 +10,18 @@ const FIRST_GAP: f64 = 1_000_000.0;
 pub struct Usual {
     /// How many gaps there were, by log2 of their nanoseconds.
     gaps: [u32; 64],
-    count: u32,
     last: Option<Nanos>,
-    /// The longest content, and how many contents are about as long, and shorter.
+    /// The longest content, and below which length one is short; how many contents are about as long, and shorter.
     longest: u32,
-    full: u32,
-    short: u32,
+    long: u32,
+    lengths: [u32; 2],
     /// Whether all contents are 2^k - 1 bytes.
     are_windows: bool,
 }
 
 impl Default for Usual {
     fn default() -> Usual {
-        Usual { gaps: [0; 64], count: 0, last: None, longest: 0, full: 0, short: 0, are_windows: true }
+        Usual { gaps: [0; 64], last: None, longest: 0, long: 0, lengths: [0; 2], are_windows: true }
     }
 }
 
@@ -31,26 +30,51 @@ pub fn is_window(number: i64) -> bool {
     number >= 1023 && number & (number + 1) == 0
 }
 
+/// Of a time; no time is shorter than one nanosecond.
+#[inline]
+fn log2_of(time: Nanos) -> usize {
+    63 & !(time.max(1) as u64).leading_zeros() as usize
+}
+
 impl Usual {
     /// Content came, the first bytes of it and the last.
     pub fn content(&mut self, first: Nanos, last: Nanos, length: u32) {
+        self.times(first, last, 1);
+        self.length(length);
+    }
+
+    /// Contents came, one or more, all but the first of which have the time of the last.
+    #[inline]
+    pub fn times(&mut self, first: Nanos, last: Nanos, contents: u32) {
         if let Some(before) = self.last.replace(last) {
-            let gap = first.saturating_sub(before).max(1) as u64;
-            self.gaps[(63 - gap.leading_zeros()) as usize] += 1;
-            self.count += 1;
+            self.gaps[log2_of(first.saturating_sub(before))] += 1;
         }
-        self.are_windows = self.are_windows && is_window(i64::from(length));
+        self.gaps[log2_of(0)] += contents - 1;
+    }
+
+    /// Content has this length.
+    #[inline]
+    pub fn length(&mut self, length: u32) {
+        if self.are_windows {
+            self.are_windows = is_window(i64::from(length));
+        }
         if length > self.longest {
             self.lengthen(length);
         }
-        *(if self.is_short(length) { &mut self.short } else { &mut self.full }) += 1;
+        self.lengths[usize::from(self.is_short(length))] += 1;
+    }
+
+    pub fn longest(&self) -> u32 {
+        self.longest
     }
 
     /// The longest content so far came.
+    #[inline(never)]
     fn lengthen(&mut self, length: u32) {
         let before = std::mem::replace(&mut self.longest, length);
+        self.long = length - length / 4;
         if self.is_short(before) {
-            self.short += std::mem::take(&mut self.full);
+            self.lengths[1] += std::mem::take(&mut self.lengths[0]);
         }
     }
 
@@ -61,29 +85,33 @@ impl Usual {
 
     /// The median of gaps, in nanoseconds.
     pub fn gap(&self) -> f64 {
-        let mut rest = self.count / 2;
+        let mut rest = self.count() / 2;
         for (power, count) in self.gaps.iter().enumerate() {
             match rest.checked_sub(*count) {
-                Some(left) if self.count > 0 => rest = left,
-                _ if self.count > 0 => return f64::from(power as u32).exp2(),
-                _ => break,
+                Some(left) => rest = left,
+                None => return f64::from(power as u32).exp2(),
             }
         }
         FIRST_GAP
     }
 
+    fn count(&self) -> u32 {
+        self.gaps.iter().sum()
+    }
+
     /// What it tells that content is so short: bits, where short content is rare.
     pub fn bits_of_short(&self, length: u32) -> f64 {
-        let all = f64::from(self.short) + f64::from(self.full);
-        if !self.is_short(length) || self.short == 0 {
+        let [full, short] = self.lengths.map(f64::from);
+        if !self.is_short(length) || self.lengths[1] == 0 {
             return 0.0;
         }
-        (all / f64::from(self.short)).log2().clamp(0.0, 5.0)
+        ((short + full) / short).log2().clamp(0.0, 5.0)
     }
 
     /// Whether content is less than three quarters of the longest.
+    #[inline]
     pub fn is_short(&self, length: u32) -> bool {
-        u64::from(length) * 4 < u64::from(self.longest) * 3
+        length < self.long
     }
 
     pub fn are_windows(&self) -> bool {
@@ -105,7 +133,7 @@ mod tests {
                 usual.grant();
             }
         }
-        assert_eq!((usual.gap(), usual.count), (512.0, 3));
+        assert_eq!((usual.gap(), usual.count()), (512.0, 3));
     }
 
     #[test]

@@ -3,6 +3,8 @@
 
 use cutter::Nanos;
 
+pub use crate::bounded::BoundedWindow;
+use crate::bounded::{AtBound, NEVER};
 use crate::evidence::{Bound, Evidence, Pause, Touch, LIKELY};
 use crate::usual::Usual;
 
@@ -17,11 +19,13 @@ pub struct Content {
 }
 
 /// All windows of a sender but those of its streams.
-#[derive(Clone, Debug, Default)]
+#[derive(Clone, Debug)]
 pub struct Sender {
     usual: Usual,
     credit: i64,
     pause: Option<Pause>,
+    /// Above this the credit of a stream that opened since is not at its bound.
+    opened: i64,
     held: Option<Held>,
     pub connection: Evidence,
     /// Of the initial window that was in force at the beginning, by the streams that opened since.
@@ -46,56 +50,38 @@ struct Held {
     turn: u32,
 }
 
-/// The window of a stream for what one side sends.
-#[derive(Clone, Debug)]
-pub struct BoundedWindow {
-    is_live: bool,
-    /// Beside its unknown beginning, and beside the initial window.
+/// Contents of one time.
+pub struct Run<'a> {
+    sender: &'a mut Sender,
     credit: i64,
-    /// The least that this was.
-    pub least: i64,
-    /// The bound of one that was open at the beginning, as its evidence has it since the last change of the initial window.
-    bound: i64,
-    pause: Option<Pause>,
-    /// Of how many changes of the initial window the pause knows.
-    change: u32,
-    /// When the other side last sent what this one may answer.
-    spoken: Option<Nanos>,
-    /// Of a stream that was open at the beginning: before and after the initial window changed.
-    pub open: Option<Box<[Evidence; 2]>>,
-    pub is_refused: bool,
+    low: i64,
+    opened: i64,
+    contents: u32,
 }
 
-impl BoundedWindow {
-    /// Of a stream that opens now.
-    pub fn opened(is_live: bool) -> BoundedWindow {
-        BoundedWindow {
-            is_live,
-            credit: 0,
-            least: 0,
-            bound: i64::MAX,
-            pause: None,
-            change: 0,
-            spoken: None,
-            open: None,
-            is_refused: false,
+impl Run<'_> {
+    /// Takes content of a stream that opened since, unless it pauses or comes to a bound. Answers whether that is so.
+    #[inline(always)]
+    pub fn takes(&mut self, window: &mut BoundedWindow, length: u32) -> bool {
+        let (credit, own) = (self.credit - i64::from(length), window.credit - i64::from(length));
+        if !window.is_plain || own <= self.opened || credit <= self.low {
+            return false;
         }
+        (self.credit, window.credit) = (credit, own);
+        self.sender.usual.length(length);
+        self.contents += 1;
+        true
     }
 
-    /// Of a stream that was open at the beginning, when its sender may have waited.
-    pub fn open_since(beginning: Nanos) -> BoundedWindow {
-        let pause = Some(Pause::from_the_beginning(beginning));
-        BoundedWindow { pause, open: Some(Default::default()), ..BoundedWindow::opened(true) }
-    }
-
-    pub fn end(&mut self) {
-        self.is_live = false;
-        self.pause = None;
-    }
-
-    /// The other side sent HEADERS or content.
-    pub fn spoken(&mut self, time: Nanos) {
-        self.spoken = Some(time);
+    /// Answers how many contents there were, how many bytes, and the longest of all so far.
+    #[inline]
+    pub fn end(self, time: Nanos) -> (u32, i64, u32) {
+        let Run { sender, credit, contents, .. } = self;
+        let bytes = std::mem::replace(&mut sender.credit, credit) - credit;
+        if contents > 0 {
+            sender.usual.times(time, time, contents);
+        }
+        (contents, bytes, sender.usual.longest())
     }
 }
 
@@ -111,7 +97,21 @@ struct Touched {
 impl Sender {
     /// Of a connection on which nothing more of it is known than what comes behind this time.
     pub fn new(beginning: Nanos) -> Sender {
-        Sender { pause: Some(Pause::from_the_beginning(beginning)), ..Sender::default() }
+        Sender {
+            usual: Usual::default(),
+            credit: 0,
+            pause: Some(Pause::from_the_beginning(beginning)),
+            opened: i64::MAX,
+            held: None,
+            connection: Evidence::default(),
+            initial: Evidence::default(),
+            in_force: None,
+            least_in_force: None,
+            changed: None,
+            changes: 0,
+            is_refused: false,
+            is_initial_refused: false,
+        }
     }
 
     /// The other side's settings are in force from here on.
@@ -121,6 +121,7 @@ impl Sender {
         self.in_force = Some(initial);
         self.least_in_force = Some(self.least_in_force.map_or(initial, |least| least.min(initial)));
         self.changes = self.changes.wrapping_add(1);
+        self.opened = -initial;
     }
 
     /// Whether settings were seen that changed the initial window.
@@ -132,11 +133,20 @@ impl Sender {
         self.usual.are_windows()
     }
 
+    /// Contents of one time, which neither end pauses nor come to bounds; none while the connection's window pauses.
+    #[inline]
+    pub fn run(&mut self) -> Option<Run<'_>> {
+        match (self.pause, self.connection.low) {
+            (None, Some(low)) => Some(Run { credit: self.credit, low, opened: self.opened, contents: 0, sender: self }),
+            _ => None,
+        }
+    }
+
     /// Content came on a stream, whose window may not be known any more.
     pub fn content(&mut self, window: Option<&mut BoundedWindow>, content: Content) {
         match window.filter(|window| window.is_live) {
             Some(window) => {
-                if is_over(&self.pause) || is_over(&window.pause) {
+                if is_over(&self.pause) || is_over(&window.pause()) {
                     self.end_pauses(Some(&mut *window), content);
                 }
                 self.lower_stream(window, content);
@@ -156,11 +166,11 @@ impl Sender {
     /// Content comes behind pauses that grants ended.
     #[inline(never)]
     fn end_pauses(&mut self, window: Option<&mut BoundedWindow>, content: Content) {
-        let spoken = window.as_ref().and_then(|window| window.spoken);
+        let spoken = window.as_ref().map_or(NEVER, |window| window.spoken);
         let touched = Touched {
             connection: self.pause.and_then(|pause| pause.touch(content.first, spoken)),
             stream: window.as_ref().and_then(|window| self.touch_of(window, content.first)),
-            is_held: window.as_ref().map_or(false, |window| self.is_held_in(window.pause)),
+            is_held: window.as_ref().map_or(false, |window| self.is_held_in(window.pause())),
         };
         if let Some((since, granted)) = self.pause.and_then(|pause| pause.ended()) {
             self.held = Some(Held { since, granted, turn: self.connection.turn });
@@ -174,8 +184,8 @@ impl Sender {
 
     /// Whether content ends a pause of a stream's window.
     fn touch_of(&self, window: &BoundedWindow, content: Nanos) -> Option<Touch> {
-        let pause = window.pause.filter(|_| window.change == self.changes)?;
-        pause.touch(content, window.spoken)
+        let known = window.at_bound.as_ref().filter(|known| known.change == self.changes)?;
+        known.pause?.touch(content, window.spoken)
     }
 
     /// Whether the connection's window was at its bound in a pause of a stream's.
@@ -191,7 +201,9 @@ impl Sender {
     /// Takes what a pause tells to the windows that were at their bounds.
     fn tell_stream(&mut self, window: &mut BoundedWindow, touched: Touched) {
         let Sender { connection, initial, in_force, usual, .. } = self;
-        match (touched.connection, touched.stream, evidence(initial, *in_force, window)) {
+        let credit = window.credit + in_force.unwrap_or(0);
+        let open = window.at_bound.as_mut().and_then(|known| known.open.as_deref_mut());
+        match (touched.connection, touched.stream, (evidence(initial, *in_force, open), credit)) {
             (None, None, _) => {}
             (Some(of_connection), Some(of_stream), (Some(evidence), _)) => {
                 tell_both(connection, evidence, [&of_connection, &of_stream], usual);
@@ -210,31 +222,18 @@ impl Sender {
 
     #[inline]
     fn lower_stream(&mut self, window: &mut BoundedWindow, content: Content) {
-        let length = i64::from(content.length);
-        window.credit -= length;
-        window.least = window.least.min(window.credit);
-        match window.credit + self.in_force.unwrap_or(0) > self.bound_of(window) {
-            true => window.pause = None,
-            false => self.reach_bound(window, content),
-        }
-    }
-
-    /// Above this a window's credit is not at its bound.
-    #[inline]
-    fn bound_of(&self, window: &BoundedWindow) -> i64 {
-        match (&window.open, self.in_force) {
-            (Some(_), _) if window.change == self.changes => window.bound,
-            (Some(_), _) => i64::MAX,
-            (None, None) => self.initial.low.unwrap_or(i64::MAX),
-            (None, Some(_)) => 0,
+        if !window.lower(content.length, self.in_force.unwrap_or(0), (self.changes, self.opened)) {
+            self.reach_bound(window, content);
         }
     }
 
     /// The credit of a window may be at its bound, or below it.
     #[inline(never)]
     fn reach_bound(&mut self, window: &mut BoundedWindow, content: Content) {
-        window.change = self.changes;
-        let (evidence, credit) = evidence(&mut self.initial, self.in_force, window);
+        let credit = window.credit + self.in_force.unwrap_or(0);
+        let known = window.at_bound.get_or_insert_with(|| Box::new(AtBound::new(None)));
+        known.change = self.changes;
+        let evidence = evidence(&mut self.initial, self.in_force, known.open.as_deref_mut());
         let (before, after) = (credit + i64::from(content.length), credit);
         let (bound, low) = match evidence {
             Some(evidence) => {
@@ -246,8 +245,12 @@ impl Sender {
             None if after <= 0 => (Bound::Old, None),
             None => (Bound::None, None),
         };
-        window.bound = low.unwrap_or(i64::MAX);
-        window.pause = pause_at(bound, content);
+        known.bound = low.unwrap_or(i64::MAX);
+        known.pause = pause_at(bound, content);
+        window.is_plain = known.pause.is_none() && known.open.is_none();
+        if self.in_force.is_none() {
+            self.opened = self.initial.low.unwrap_or(i64::MAX);
+        }
     }
 
     /// The other side grants so much on the connection.
@@ -259,28 +262,23 @@ impl Sender {
 
     /// The other side grants so much on a stream.
     pub fn grant_stream(&mut self, window: &mut BoundedWindow, time: Nanos, amount: u32) {
-        if window.is_live {
-            window.credit += i64::from(amount);
-            window.pause.iter_mut().for_each(|pause| pause.grant(time));
-        }
+        window.grant(time, amount);
         self.usual.grant();
     }
 }
 
-/// What is known of a stream's window, if anything of it is unknown; and its credit beside that.
+/// What is known of a stream's window, if anything of it is unknown.
 #[inline]
 fn evidence<'a>(
     initial: &'a mut Evidence,
     in_force: Option<i64>,
-    window: &'a mut BoundedWindow,
-) -> (Option<&'a mut Evidence>, i64) {
-    let credit = window.credit + in_force.unwrap_or(0);
-    let evidence = match (&mut window.open, in_force) {
+    open: Option<&'a mut [Evidence; 2]>,
+) -> Option<&'a mut Evidence> {
+    match (open, in_force) {
         (Some(open), in_force) => Some(&mut open[usize::from(in_force.is_some())]),
         (None, None) => Some(initial),
         (None, Some(_)) => None,
-    };
-    (evidence, credit)
+    }
 }
 
 /// Whether a grant ended a pause.

@@ -33,7 +33,7 @@ fn the_least_credit_is_what_was_used_before_grants() {
     round(&mut sender, &mut window, 0, &[1000, 500], [700, 300]);
     round(&mut sender, &mut window, 2 * MS, &[600], [0, 0]);
     assert_eq!(sender.connection.least(), Some(1500));
-    assert_eq!(window.open.expect("open")[0].least(), Some(1800));
+    assert_eq!(window.open().expect("open")[0].least(), Some(1800));
 }
 
 #[test]
@@ -44,7 +44,7 @@ fn a_stream_that_touches_its_bound_alone() {
     for at in 0..4 {
         round(&mut sender, &mut window, at * ROUND, &[1000, 500], [0, 1500]);
     }
-    let evidence = &window.open.expect("open")[0];
+    let evidence = &window.open().expect("open")[0];
     assert_eq!((evidence.least(), evidence.touches), (Some(1500), 3));
     assert!(evidence.alone > LIKELY && evidence.shared == 0.0, "{evidence:?}");
     assert_eq!(sender.connection.least(), Some(9000));
@@ -56,7 +56,7 @@ fn both_windows_in_the_same_pauses() {
     for at in 0..4 {
         round(&mut sender, &mut window, at * ROUND, &[1000, 500], [1500, 1500]);
     }
-    let evidence = &window.open.as_ref().expect("open")[0];
+    let evidence = &window.open().expect("open")[0];
     let found = weighed(evidence, &sender.connection);
     assert!(found.alone == 0.0 && found.shared > LIKELY, "{evidence:?}");
     assert!(lent_by(&sender.connection, evidence) > LIKELY);
@@ -98,7 +98,7 @@ fn an_open_stream_before_and_after_a_change() {
     round(&mut sender, &mut window, 0, &[1000], [0, 0]);
     sender.change(0, 4000);
     round(&mut sender, &mut window, MS, &[3500], [0, 0]);
-    let [before, after] = *window.open.expect("open");
+    let [before, after] = window.open().expect("open").clone();
     assert_eq!((before.least(), after.least()), (Some(1000), Some(500)));
 }
 
@@ -108,23 +108,23 @@ fn silent_since_the_beginning() {
     sender.grant(MS, 70_000);
     sender.grant_stream(&mut window, 100 * MS, 5000);
     sender.content(Some(&mut window), content(100 * MS + 1000, 1000));
-    let evidence = &window.open.expect("open")[0];
+    let evidence = &window.open().expect("open")[0];
     assert!(evidence.silent >= LIKELY && evidence.least() == Some(-4000), "{evidence:?}");
     assert_eq!(sender.connection.silent, 0.0);
     let (mut sender, mut window) = open();
     sender.grant(100 * MS, 5000);
     sender.grant_stream(&mut window, 100 * MS, 5000);
     sender.content(Some(&mut window), content(100 * MS + 1000, 1000));
-    assert!(window.open.expect("open")[0].is_silent_shared, "both were granted then");
+    assert!(window.open().expect("open")[0].is_silent_shared, "both were granted then");
     let (mut sender, mut window) = open();
     sender.grant_stream(&mut window, 100 * MS, 5000);
     sender.content(Some(&mut window), content(100 * MS + 1000, 1000));
-    assert!(!window.open.expect("open")[0].is_silent_shared);
+    assert!(!window.open().expect("open")[0].is_silent_shared);
     let (mut sender, mut window) = open();
     sender.grant(MS, 5000);
     sender.grant_stream(&mut window, 100 * MS, 5000);
     sender.content(Some(&mut window), content(100 * MS + 1000, 1000));
-    assert!(!window.open.expect("open")[0].is_silent_shared, "the connection had credit long before");
+    assert!(!window.open().expect("open")[0].is_silent_shared, "the connection had credit long before");
 }
 
 /// The connection's window was at its bound in the stream's pause, though another stream went on first.
@@ -141,7 +141,7 @@ fn a_pause_of_both_that_another_stream_ends() {
         sender.grant_stream(&mut window, begin + MS, 500);
         sender.grant_stream(&mut other, begin + MS, 1000);
     }
-    let evidence = &window.open.as_ref().expect("open")[0];
+    let evidence = &window.open().expect("open")[0];
     assert!(evidence.touches == 3 && evidence.alone == 0.0 && evidence.shared > LIKELY, "{evidence:?}");
     assert!(weighed(evidence, &sender.connection).shared > 0.0 || sender.connection.alone >= LIKELY);
 }
@@ -154,5 +154,5 @@ fn an_answer_is_no_touch() {
         round(&mut sender, &mut window, at * ROUND, &[1000], [1000, 1000]);
         window.spoken(at * ROUND + MS);
     }
-    assert_eq!((window.open.expect("open")[0].touches, sender.connection.touches), (0, 0));
+    assert_eq!((window.open().expect("open")[0].touches, sender.connection.touches), (0, 0));
 }
