@@ -38,6 +38,13 @@ impl FileView {
         Ok(self.bytes.get(from..).and_then(|rest| rest.get(..size)))
     }
 
+    /// What is in view from a place on.
+    #[inline]
+    pub fn rest(&self, place: u64) -> &[u8] {
+        let left = self.left(place).unwrap_or(0);
+        &self.bytes[self.filled - left..self.filled]
+    }
+
     /// How many bytes are in view from a place on, if that is.
     #[inline]
     fn left(&self, place: u64) -> Option<usize> {

@@ -200,7 +200,9 @@ impl<W: Write> Writer<W> {
             self.out.write_all(&self.head)?;
             self.out.write_all(parts[0])?;
         } else {
-            self.head.extend_from_slice(parts[0]);
+            if !parts[0].is_empty() {
+                self.head.extend_from_slice(parts[0]);
+            }
             self.out.write_all(&self.head)?;
         }
         match parts[1] {

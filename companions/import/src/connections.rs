@@ -8,7 +8,7 @@ use captures::{flags, placed, swapped, Arrival, Ends, Flow, HeldSegment, Segment
 use tls::{looks_like_tls, Known, Shared, CLIENT, SERVER};
 
 use crate::common::{Came, Common};
-use crate::listener::{Sender, Written};
+use crate::listener::{Sender, Written, HEADERS};
 use crate::outcomes::{Became, Outcome};
 use crate::plaintext::{became, Later, Numbers, Plain};
 use crate::preamble::{look, Looked, Preamble};
@@ -144,7 +144,7 @@ impl FollowedConnection {
             Mode::Undecided(_) => self.take_undecided(common, came, is_answer),
             Mode::Clear | Mode::Behind(_) => self.emit(common.sink, came),
             Mode::Tls(_) if is_answer => {
-                common.sink.emit(arrival, self.sender(side), Written::headers(segment, &mut Vec::new()));
+                common.sink.emit(arrival, self.sender(side), Written::headers(segment, &mut [0; HEADERS]));
                 for one in std::mem::take(&mut self.held) {
                     self.take_tls(common, &one.came(&one.segment.segment()));
                 }
@@ -258,7 +258,7 @@ impl FollowedConnection {
             let segment = one.segment.segment();
             common.sink.is_made = one.is_made;
             if segment.flags & flags::SYN != 0 {
-                common.sink.emit(one.arrival, self.sender(one.side), Written::headers(&segment, &mut Vec::new()));
+                common.sink.emit(one.arrival, self.sender(one.side), Written::headers(&segment, &mut [0; HEADERS]));
             }
             common.sink.is_made = false;
             self.take_tls(common, &one.came(&segment));

@@ -8,6 +8,9 @@ use programs::Failure;
 
 use crate::outcomes::Summary;
 
+/// So many bytes the headers of IPv4 and TCP have at most (RFC 791, 3.1; RFC 9293, 3.1).
+pub(crate) const HEADERS: usize = 120;
+
 /// Packets are numbered through all files.
 pub trait Listener {
     /// A file begins, behind so many packets of others.
@@ -86,12 +89,16 @@ impl<'a> Written<'a> {
     }
 
     /// A segment without its payload, for whose datagram there is some room.
-    pub(crate) fn headers(segment: &Segment<'_>, room: &'a mut Vec<u8>) -> Written<'a> {
-        room.clear();
-        segment.headers().iter().filter(|part| !part.is_empty()).for_each(|part| room.extend_from_slice(part));
-        let length = (segment.start as u16).to_be_bytes();
-        room[2..4].copy_from_slice(&length);
-        Written { parts: [room, &[]], original: segment.start as u32, ..Written::like(segment, segment.start) }
+    #[inline]
+    pub(crate) fn headers(segment: &Segment<'_>, room: &'a mut [u8; HEADERS]) -> Written<'a> {
+        let [front, rest] = segment.headers();
+        if !front.is_empty() {
+            room[..front.len()].copy_from_slice(front);
+        }
+        room[front.len()..segment.start].copy_from_slice(rest);
+        room[2..4].copy_from_slice(&(segment.start as u16).to_be_bytes());
+        let parts = [&room[..segment.start], &[]];
+        Written { parts, original: segment.start as u32, ..Written::like(segment, segment.start) }
     }
 
     fn like(segment: &Segment<'_>, end: usize) -> Written<'a> {

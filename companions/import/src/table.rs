@@ -11,7 +11,7 @@ use tls::{Random, Shared, CLIENT, SERVER};
 use crate::common::{Came, Common};
 use crate::connections::FollowedConnection;
 use crate::ends_hashing::EndsHashing;
-use crate::listener::{Sender, Written};
+use crate::listener::{Sender, Written, HEADERS};
 use crate::outcomes::{Became, Fate, Outcome, Unopened};
 use crate::plaintext::Later;
 use crate::sink::Sink;
@@ -123,7 +123,6 @@ pub struct Table {
     waiting: HashMap<Random, Vec<(usize, usize)>>,
     /// How many fragments belong to connections, by their numbers.
     fragments: HashMap<usize, u64>,
-    room: Vec<u8>,
     /// Whether connections are joined behind gaps; and of those of TLS with gaps, what their records go on with.
     pub is_joining: bool,
     behind: HashMap<usize, Box<tls::TlsConnection>>,
@@ -315,7 +314,7 @@ impl Table {
     /// Counts a segment of no connection, and writes its headers, for h2audit to name it.
     fn stray(&mut self, sink: &mut Sink<'_>, arrival: Arrival, segment: &Segment<'_>, number: usize) -> Stray {
         let flow = self.unopened[number].take(segment);
-        sink.emit(arrival, None, Written::headers(segment, &mut self.room));
+        sink.emit(arrival, None, Written::headers(segment, &mut [0; HEADERS]));
         Stray { pair: number, flow }
     }
 

@@ -12,8 +12,8 @@ use programs::{printable, temporary_failure, Failure, PrivateFile};
 
 use crate::listener::Written;
 
-/// Whose it is, and what is known besides.
-const FRONT: usize = 5;
+/// Behind a byte with flags stands whose it is, unless it is that of the one before it.
+const SOURCE: usize = 4;
 /// Where a record stands: packet, file, place.
 const STANDS: usize = 20;
 /// What it is known by where it stands; what is kept itself has more behind its front.
@@ -30,6 +30,10 @@ const PLAINTEXT: u8 = 2;
 /// The record stands at a place that is told, or behind the one before it.
 const IN_FILE: u8 = 4;
 const FOLLOWS: u8 = 8;
+/// It is of the same source as the one before it.
+const SAME: u8 = 16;
+/// What follows the one before it in all, but that it may be of the other flow.
+const GOES_ON: u8 = IN_FILE | FOLLOWS | SAME;
 
 /// Whose packets wait.
 #[derive(Clone, Copy, Debug, PartialEq, Eq, Hash)]
@@ -49,7 +53,7 @@ impl Source {
             Source::Hole(number) => (number, 1),
             Source::Behind(number) => (number, 2),
         };
-        number as u32 * KINDS + kind
+        (number as u32).wrapping_mul(KINDS) + kind
     }
 
     fn of(number: u32) -> Source {
@@ -87,14 +91,6 @@ pub struct Known {
     pub place: Option<Place>,
 }
 
-impl Known {
-    fn front(&self, how: u8) -> [u8; FRONT] {
-        let [a, b, c, d] = self.source.number().to_le_bytes();
-        let plaintext = if self.is_plaintext { PLAINTEXT } else { 0 };
-        [a, b, c, d, self.flow as u8 | plaintext | how]
-    }
-}
-
 /// By which a segment is known once more, as good as surely: its numbers, and where its payload ends.
 #[inline]
 fn print_of(nanos: i64, [sequence, acknowledgement]: [u32; 2], end: usize) -> u32 {
@@ -107,8 +103,9 @@ pub struct Kept {
     file: Option<PrivateFile>,
     /// What is written next.
     buffer: Vec<u8>,
-    /// File and packet of the last one that stands in a file.
-    last: Option<(u32, u64)>,
+    /// File and number of the packet behind the last one that stands in a file, and the source of the last one of all.
+    next: Option<(u32, u64)>,
+    source: Option<u32>,
 }
 
 impl Kept {
@@ -121,27 +118,39 @@ impl Kept {
         };
         let Arrival { packet, nanos } = known.arrival;
         let print = print_of(nanos, [segment.sequence, segment.acknowledgement], segment.end);
-        if self.last.replace((place.file, packet)) == Some((place.file, packet - 1)) {
-            self.keep_front(known, IN_FILE | FOLLOWS, print);
+        let follows = self.next.replace((place.file, packet + 1)) == Some((place.file, packet));
+        if follows && self.source == Some(known.source.number()) {
+            let [a, b, c, d] = print.to_le_bytes();
+            self.buffer.extend_from_slice(&[known.flow as u8 | GOES_ON, a, b, c, d]);
         } else {
-            self.keep_front(known, IN_FILE, print);
-            self.buffer.extend_from_slice(&stands_bytes(packet, place));
+            self.keep_elsewhere(known, follows, print, place);
         }
         self.write_much()
     }
 
-    #[inline]
-    fn keep_front(&mut self, known: &Known, how: u8, print: u32) {
-        let mut bytes = [0; FRONT + PRINT];
-        bytes[..FRONT].copy_from_slice(&known.front(how));
-        bytes[FRONT..].copy_from_slice(&print.to_le_bytes());
-        self.buffer.extend_from_slice(&bytes);
+    #[inline(never)]
+    fn keep_elsewhere(&mut self, known: &Known, follows: bool, print: u32, place: Place) {
+        self.keep_front(known, if follows { IN_FILE | FOLLOWS } else { IN_FILE });
+        self.buffer.extend_from_slice(&print.to_le_bytes());
+        if !follows {
+            self.buffer.extend_from_slice(&stands_bytes(known.arrival.packet, place));
+        }
+    }
+
+    fn keep_front(&mut self, known: &Known, how: u8) {
+        let source = known.source.number();
+        let plaintext = if known.is_plaintext { PLAINTEXT } else { 0 };
+        let same = if self.source.replace(source) == Some(source) { SAME } else { 0 };
+        self.buffer.push(known.flow as u8 | plaintext | how | same);
+        if same == 0 {
+            self.buffer.extend_from_slice(&source.to_le_bytes());
+        }
     }
 
     /// Keeps a datagram that had so many bytes.
     pub fn keep_bytes(&mut self, known: &Known, original: u32, parts: [&[u8]; 2]) -> io::Result<()> {
         let length = (parts[0].len() + parts[1].len()) as u32;
-        self.buffer.extend_from_slice(&known.front(0));
+        self.keep_front(known, 0);
         self.buffer.extend_from_slice(&known.arrival.packet.to_le_bytes());
         self.buffer.extend_from_slice(&known.arrival.nanos.to_le_bytes());
         self.buffer.extend_from_slice(&original.to_le_bytes());
@@ -180,7 +189,7 @@ impl Kept {
             None => FileView::of_bytes(self.buffer),
         };
         let (packet, at) = (0, Place { file: 0, at: 0 });
-        Ok(has_some.then(|| Waiting { view, place: 0, originals, open: None, packet, at }))
+        Ok(has_some.then(|| Waiting { view, place: 0, source: 0, originals, open: None, packet, at }))
     }
 }
 
@@ -195,8 +204,9 @@ fn stands_bytes(packet: u64, place: Place) -> [u8; STANDS] {
 /// What waited, in the order in which it came.
 pub struct Waiting {
     view: FileView,
-    /// Of what is read next there.
+    /// Of what is read next there, and the source of what was read last.
     place: u64,
+    source: u32,
     originals: Vec<Original>,
     /// The file that is read, by its number.
     open: Option<(u32, pcap::Records)>,
@@ -239,23 +249,54 @@ impl<'a> Waited<'a> {
 
 impl Waiting {
     #[allow(clippy::should_implement_trait)] // what waited borrows from this, which no Iterator's may
-    #[inline(always)] // its answer is large, and wanted in few places
+    #[inline]
     pub fn next(&mut self) -> Result<Option<Waited<'_>>, Failure> {
-        let (number, how, print) = match self.view.at(self.place, FRONT + PRINT) {
-            Ok(Some(&[a, b, c, d, how, ref print @ ..])) => (u32::from_le_bytes([a, b, c, d]), how, four(print, 0)),
-            Ok(_) => return Ok(None),
+        let how = match self.view.at(self.place, 1) {
+            Ok(Some(front)) => front[0],
+            Ok(None) => return Ok(None),
             Err(error) => return Err(temporary_failure(&error)),
         };
-        let source = (Source::of(number), usize::from(how & FLOW));
+        self.place += 1;
+        if how & SAME == 0 {
+            self.source = u32::from_le_bytes(self.take::<SOURCE>()?);
+        }
+        let source = (Source::of(self.source), usize::from(how & FLOW));
         if how & IN_FILE == 0 {
             return self.kept(source, how & PLAINTEXT != 0).map(Some);
         }
-        self.place += (FRONT + PRINT) as u64;
+        let print = u32::from_le_bytes(self.take::<PRINT>()?);
         match how & FOLLOWS {
             0 => self.stands()?,
             _ => self.packet += 1,
         }
         self.standing(source, print).map(Some)
+    }
+
+    /// Gives what follows in the file, as long as it is of the same source, and known by its bytes as it is written: of
+    /// each packet the flow, and when it came.
+    #[inline]
+    pub fn go_on(&mut self, mut give: impl FnMut(usize, Arrival, Written<'_>)) {
+        let records = match &mut self.open {
+            Some((_, records)) => records,
+            None => return,
+        };
+        while let (Ok(Some(_)), Ok(Some(_))) = (self.view.at(self.place, 1 + PRINT), records.at(self.at.at)) {
+            // Both are in view, with much that follows.
+            let (mut entries, mut rest) = (self.view.rest(self.place), records.rest(self.at.at));
+            while let (&[how, a, b, c, d, ref others @ ..], Some((packet, size))) = (entries, records.packet_in(rest)) {
+                let print = u32::from_le_bytes([a, b, c, d]);
+                let found = match InIpv4::again(&packet) {
+                    Some(found) if how & !FLOW == GOES_ON && is_print(print, packet.nanos, &found) => found,
+                    _ => return,
+                };
+                (entries, rest) = (others, &rest[size..]);
+                self.place += (1 + PRINT) as u64;
+                self.packet += 1;
+                self.at.at += size as u64;
+                let arrival = Arrival { packet: self.packet, nanos: packet.nanos };
+                give(usize::from(how & FLOW), arrival, Written::standing(&found));
+            }
+        }
     }
 
     /// Reads where the next packet stands.
@@ -280,7 +321,6 @@ impl Waiting {
 
     #[inline(never)]
     fn kept(&mut self, (source, flow): (Source, usize), is_plaintext: bool) -> Result<Waited<'_>, Failure> {
-        self.place += FRONT as u64;
         let front = self.take::<KEPT>()?;
         let arrival = Arrival { packet: eight(&front, 0), nanos: eight(&front, 8) as i64 };
         let (original, length) = (four(&front, 16), four(&front, 20));
@@ -291,7 +331,6 @@ impl Waiting {
         Ok(Waited { known: Known { source, flow, arrival, is_plaintext, place: None }, packet, standing: None })
     }
 
-    #[inline(always)]
     fn standing(&mut self, (source, flow): (Source, usize), print: u32) -> Result<Waited<'_>, Failure> {
         let place = self.at;
         if self.open.as_ref().map_or(true, |(open, _)| *open != place.file) {
@@ -318,6 +357,13 @@ impl Waiting {
     }
 }
 
+/// Whether a segment is the one that waited, and is known by this.
+#[inline]
+fn is_print(print: u32, nanos: i64, found: &InIpv4<'_>) -> bool {
+    print_of(nanos, [found.sequence, found.acknowledgement], found.end) == print
+}
+
+#[inline]
 fn four(bytes: &[u8], at: usize) -> u32 {
     Order::Little.u32(bytes, at)
 }

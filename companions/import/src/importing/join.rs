@@ -305,10 +305,23 @@ impl Importer<'_, '_> {
                     Some(written) => self.table.pass(self.common.sink, way.sender(known), known.arrival, written),
                     None => self.take_waited(waited, way)?,
                 }
+                if is_written && !way.is_opened {
+                    self.pass_waiting(&mut waiting, way, &mut ended.captured[way.place]);
+                }
             }
         }
         // Of some nothing is to be written.
         (0..ended.parts.len()).try_for_each(|part| self.way_behind(part, ended).map(drop))
+    }
+
+    /// Writes what goes on with a connection, as long as it goes through as it stands.
+    fn pass_waiting(&mut self, waiting: &mut Waiting, way: Way, captured: &mut [bool; 2]) {
+        let (sink, table) = (&mut *self.common.sink, &mut self.table);
+        waiting.go_on(|flow, arrival, written| {
+            let side = flow ^ way.client;
+            captured[side] = true;
+            table.pass(sink, Sender { connection: way.connection, side }, arrival, written);
+        });
     }
 
     /// Where what follows a gap goes, which begins with its first packet.

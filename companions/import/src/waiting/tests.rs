@@ -85,3 +85,39 @@ fn a_file_that_changes() {
         assert!(failure.message().ends_with("a.pcap: changed while it was read"), "{}", failure.message());
     }
 }
+
+/// What goes on in a file comes from what is in view, and what is not in view is read.
+#[test]
+fn packets_of_any_length_go_on() {
+    let folder = tempfile::tempdir().expect("room");
+    let path = folder.path().join("a.pcap");
+    let mut writer = pcap::Writer::new(Vec::new(), RAW).expect("room");
+    let lengths: Vec<usize> = (0..400).map(|number| number * number % 60_000 / (1 + number % 3)).collect();
+    for (number, length) in lengths.iter().enumerate() {
+        let headers = made_headers(&[9; 12], [number as u32, 7], flags::ACK, *length);
+        writer.write(number as i64, 9, [&headers, &vec![1; *length]]).expect("room");
+    }
+    fs::write(&path, writer.into_inner()).expect("room");
+    let mut reader = match Reader::new(File::open(path.as_os_str()).expect("a file")).expect("a capture") {
+        Reader::Pcap(reader) => reader,
+        Reader::Pcapng(_) => panic!("it is pcap"),
+    };
+    let (header, mut kept) = (reader.header(), Kept::default());
+    for number in 0..lengths.len() as u64 {
+        let place = reader.next_place().map(|at| Place { file: 0, at });
+        if let Ok(Some(Item::Packet(packet))) = reader.next() {
+            let (source, arrival) = (Source::Pair(3), Arrival { packet: number + 1, nanos: packet.nanos });
+            let segment = Decoder::default().segment(&packet).ok().and_then(Result::ok).expect("a segment");
+            let known = Known { source, flow: number as usize % 2, arrival, is_plaintext: false, place };
+            kept.keep(&known, &segment).expect("room");
+        }
+    }
+    let mut waiting = kept.packets(vec![Original { path: path.into(), header }]).expect("room").expect("some");
+    assert!(waiting.next().ok().flatten().is_some());
+    let mut found = vec![0];
+    waiting.go_on(|flow, arrival, written| {
+        assert_eq!((flow as u64, arrival.nanos as u64 + 1), ((arrival.packet - 1) % 2, arrival.packet));
+        found.push(written.payload().len());
+    });
+    assert!(found == lengths && waiting.next().ok().flatten().is_none());
+}
