@@ -186,6 +186,7 @@ impl FrameLog {
     /// Reads all that is there now; more may be added meanwhile.
     pub fn reader(&mut self) -> io::Result<FrameReader> {
         self.file.write_all(&self.buffer[..self.begin])?;
+        self.buffer = Vec::new(); // its room goes back, as mostly no more is added
         self.forget();
         let file = self.file.try_clone()?;
         let size = file.metadata()?.len();

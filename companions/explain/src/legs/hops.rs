@@ -1,6 +1,7 @@
 //! Which listeners stand one behind the other: a proxy carries the requests of one to the other.
 
 use std::collections::{HashMap, HashSet};
+use std::hash::{Hash, Hasher};
 
 use cutter::Numbers;
 
@@ -71,7 +72,8 @@ impl By {
             By::Any => 0,
         };
         let Brief { method, status, contents, .. } = one.brief;
-        (u64::from(last) << 32 | u64::from(method), status, contents[0], contents[1])
+        let [[a, b], [c, d]] = contents.map(|number| [(number >> 32) as u32, number as u32]);
+        Key([last, method, status, a, b, c, d])
     }
 
     /// Whether so many of a listener's requests make a hop.
@@ -83,7 +85,20 @@ impl By {
     }
 }
 
-type Key = (u64, u32, u64, u64);
+/// In pieces of four bytes, so that a table of many has no gaps.
+#[derive(Clone, Copy, Debug, PartialEq, Eq)]
+struct Key([u32; 7]);
+
+impl Hash for Key {
+    #[inline]
+    fn hash<H: Hasher>(&self, state: &mut H) {
+        let Key([last, method, status, a, b, c, d]) = *self;
+        let pair = |high: u32, low: u32| u64::from(high) << 32 | u64::from(low);
+        state.write_u64(pair(last, method));
+        state.write_u32(status);
+        [pair(a, b), pair(c, d)].into_iter().for_each(|number| state.write_u64(number));
+    }
+}
 
 /// Requests by what is the same, which is numbered, of each listener the latest end of those that were opened so far.
 #[derive(Default)]
