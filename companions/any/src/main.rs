@@ -6,15 +6,13 @@ mod parts;
 mod read_map;
 mod words;
 
-use std::ffi::OsString;
+use std::ffi::{OsStr, OsString};
 use std::io::{BufRead, BufReader, Write};
 use std::path::Path;
 
-use import::{Bounds, Sink};
+use import::{Bounds, MadeCapture, Sink};
 use originals::{bring_back, no_report, Keeping, Original, Shown};
-use programs::{
-    end_cleanly, print, program_named, run, say, Audit, Failure, Input, Outcome, Output, PrivateFile, Progress,
-};
+use programs::{end_cleanly, print, program_named, run, say, Audit, Failure, Input, Outcome, Output, Progress};
 
 use parts::PartPrograms;
 use words::{words_of, Audited, Words};
@@ -69,18 +67,22 @@ fn audited(asked: &Audited) -> Outcome {
     let program = program_named(asked.program.clone())?;
     let part_programs = asked.parts.map(|parts| PartPrograms::find().map(|found| (found, parts))).transpose()?;
     let files = if asked.is_sorted { import::sorted(&asked.files)? } else { asked.files.clone() };
-    let mut made = PrivateFile::new()?;
-    let mut original = made_of(asked, &files, &mut made)?;
+    let may_stand = part_programs.is_none() && !asked.is_reordered;
+    let (mut made, mut original) = made_of(asked, &files, may_stand)?;
     say_back(&original);
-    let capture = made.path()?;
     let mut rows = asked.rows.as_deref().map(Output::begin).transpose()?;
     let status = match part_programs {
         None => {
-            let audit = Audit::start(&program, &asked.options, &capture)?;
+            let mut audit = begun(&program, &asked.options, &mut made)?;
+            if made.has_changed() {
+                drop(audit);
+                (made, original) = made_of(asked, &files, false)?;
+                audit = begun(&program, &asked.options, &mut made)?;
+            }
             of_audit("auditing", audit, &mut original, rows.as_mut())?
         }
         Some((found, parts)) => {
-            let parts = found.audit(&program, &asked.options, parts, &capture)?;
+            let parts = found.audit(&program, &asked.options, parts, &made.path()?)?;
             match of_audit("merging", parts.merging, &mut original, rows.as_mut())? {
                 status if status > FAULTS => return Err(parts::as_ours(parts::MERGE, status, "")),
                 _ if !parts.is_whole => CAPTURE_REFUSED,
@@ -94,18 +96,29 @@ fn audited(asked: &Audited) -> Outcome {
     Ok(ending(&original, status))
 }
 
-/// Makes the capture that is audited, and answers what brings its report back to the original.
-fn made_of(asked: &Audited, files: &[OsString], made: &mut PrivateFile) -> Result<Original, Failure> {
+/// Makes the capture that is audited, for which the original may stand, and what brings its report back to that.
+fn made_of(asked: &Audited, files: &[OsString], may_stand: bool) -> Result<(MadeCapture, Original), Failure> {
+    let mut made = MadeCapture::new(files, may_stand)?;
     let mut keeping = Keeping::default();
     keeping.shows_joined = asked.is_joined;
-    let mut sink = Sink::new(made, &mut keeping)?;
+    let mut sink = Sink::new(&mut made, &mut keeping)?;
     let Audited { key_logs, is_reordered, is_joined, .. } = asked;
     let (is_reordered, is_joined, bounds) = (*is_reordered, *is_joined, Bounds::default());
     let import =
         import::ImportOptions { program: NAME, files, key_logs, is_reordered, is_joined, bounds, can_repeat: true };
     import::imported(&import, &mut sink, None)?;
     drop(sink);
-    Ok(keeping.original)
+    keeping.original.is_audited = made.is_original();
+    Ok((made, keeping.original))
+}
+
+/// An audit that has read all, unless it failed. That comes again where the report is read.
+fn begun(program: &OsStr, options: &[String], made: &mut MadeCapture) -> Result<Audit, Failure> {
+    let _progress = Progress::begin(NAME, "auditing", None);
+    let mut audit = Audit::start(program, options, &made.path()?)?;
+    // Its first bytes come once all is read.
+    let _ = audit.report.fill_buf();
+    Ok(audit)
 }
 
 /// Prints the report of an audit, and answers the status of what audits.

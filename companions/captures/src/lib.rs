@@ -65,7 +65,7 @@ pub use error::Error;
 pub use file_view::FileView;
 pub use flows::{offset_of, placed, Arrival, Flow, END_OF_OFFSETS, MOST_HELD};
 pub use internet::{flags, swapped, Decoder, Ends, Fragment, HeldSegment, InIpv4, PassedOver, Segment};
-pub use link_layers::{is_read, RAW};
+pub use link_layers::{is_audited, is_read, RAW};
 pub use made::{made_headers, MADE_HEADERS};
 pub use packets::{Format, Item, Packet, Reader, MOST_CAPTURED};
 pub use refusal::Refusal;

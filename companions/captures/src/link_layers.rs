@@ -23,6 +23,21 @@ pub fn is_read(link: u16) -> bool {
     matches!(link, ETHERNET | LOOP | NULL | LINUX_COOKED | LINUX_COOKED_2) || BY_VERSION.contains(&link)
 }
 
+/// Whether h2audit too finds a datagram of IPv4 at this place of a packet (docs/AUDIT_RULES.md, 2).
+#[inline]
+pub fn is_audited_at(link: u16, data: &[u8], at: usize) -> bool {
+    match (link, at) {
+        (ETHERNET, 14) | (RAW, 0) => true,
+        (ETHERNET, 18) => u16_at(data, 12) == VLAN_TAGS[0],
+        _ => false,
+    }
+}
+
+/// Whether h2audit reads captures of this link type.
+pub fn is_audited(link: u16) -> bool {
+    matches!(link, ETHERNET | RAW)
+}
+
 /// What a packet carries, and where it begins. BSD's loopback names address families that are no EtherType: none.
 pub type Payload = (Option<u16>, usize);
 

@@ -51,6 +51,11 @@ impl Source {
         Source::new(Box::new(Counted { file: opened(path)?, count }))
     }
 
+    /// That of a file that is open, from its place on.
+    pub fn of_file(file: File, count: fn(u64)) -> Result<Source, Error> {
+        Source::new(Box::new(Counted { file: Box::new(file), count }))
+    }
+
     /// Whatever gives bytes.
     pub fn new(mut file: Box<dyn Read + Send>) -> Result<Source, Error> {
         let mut magic = Vec::new();

@@ -3,6 +3,7 @@
 use std::collections::HashMap;
 use std::io::BufRead;
 
+use import::RecordsOf;
 use programs::Failure;
 use reports::{Finding, Flow, Form, Line, Opening, ReadError, Reader, Side};
 
@@ -52,7 +53,12 @@ pub fn broken(why: &str) -> Failure {
 pub type Audits = Vec<Box<Audit>>;
 
 /// What is no report fails in some words.
-pub fn read_audits(report: impl BufRead, not_read: fn(ReadError) -> Failure) -> Result<Audits, Failure> {
+pub fn read_audits(
+    report: impl BufRead,
+    records: &RecordsOf,
+    not_read: fn(ReadError) -> Failure,
+) -> Result<Audits, Failure> {
+    let record_of = |reported: u64| records.of(reported).ok_or_else(|| broken("it has records that are not there"));
     let mut reader = Reader::new(report);
     let mut audits = Audits::new();
     // The stall of each window that goes on.
@@ -61,10 +67,12 @@ pub fn read_audits(report: impl BufRead, not_read: fn(ReadError) -> Failure) -> 
         match (line, audits.last_mut()) {
             (Line::Opening(opening), _) => {
                 going_on.clear();
-                audits.push(Box::new(Audit::of(opening)));
+                audits.push(Box::new(Audit::of(Opening { record: record_of(opening.record)?, ..opening })));
             }
             (Line::Flow(flow), Some(audit)) => audit.flows.push(flow),
-            (Line::Finding(finding), Some(audit)) => audit.add(finding, &mut going_on)?,
+            (Line::Finding(finding), Some(audit)) => {
+                audit.add(Finding { record: record_of(finding.record)?, ..finding }, &mut going_on)?;
+            }
             (Line::Audited { stopped_at: Some(frame) }, Some(audit)) => audit.stopped_at = Some(frame_of(frame)?),
             _ => {} // stalls are known by their ends
         }
@@ -154,7 +162,7 @@ mod tests {
              frame 7 record 8 time 9 client push stream 1 value 0\n\
              audit stopped at frame 7\n"
         );
-        let audits = read_audits(text.as_bytes(), of_h2audit).expect("a report");
+        let audits = read_audits(text.as_bytes(), &RecordsOf::same(), of_h2audit).expect("a report");
         let audit = &audits[0];
         let ends: Vec<_> = audit.stalls.iter().map(|one| (one.begin.frame, one.end.map(|end| end.frame))).collect();
         assert_eq!(ends, [(3, Some(6)), (4, None)]);
@@ -164,9 +172,9 @@ mod tests {
 
     #[test]
     fn what_is_no_report() {
-        assert!(read_audits(&b""[..], of_h2audit).is_err());
+        assert!(read_audits(&b""[..], &RecordsOf::same(), of_h2audit).is_err());
         let text =
             format!("{FRONT}frame 3 record 4 time 18446744073709551615 server stream-stall-begin stream 1 value 0\n");
-        assert!(read_audits(text.as_bytes(), of_h2audit).is_err());
+        assert!(read_audits(text.as_bytes(), &RecordsOf::same(), of_h2audit).is_err());
     }
 }

@@ -1,14 +1,14 @@
 //! Builds the answer: imports, learns, audits, and walks once more over what was made.
 
-use std::ffi::OsString;
+use std::ffi::{OsStr, OsString};
 use std::fs::File;
 use std::io;
 use std::path::Path;
 
-use import::{Bounds, Courses, Fate, Sink, Summary, Unopened};
+use import::{Bounds, Courses, Fate, MadeCapture, Sink, Summary, Unopened};
 use joined::How;
 use originals::{Keeping, Original};
-use programs::{program_named, temporary_failure, Failure, PrivateFile, Progress};
+use programs::{program_named, temporary_failure, Failure, Progress};
 
 use crate::answer::{Answer, Files};
 use crate::audit::{broken, Audits};
@@ -52,7 +52,7 @@ pub struct ExplainOptions<'a> {
 
 /// What was made, and what is known of it.
 pub struct Made {
-    pub capture: PrivateFile,
+    pub capture: MadeCapture,
     pub log: FrameLog,
     pub summary: Summary,
     pub courses: Courses,
@@ -70,28 +70,33 @@ pub struct Made {
 
 /// Imports the files, audits what is made, and says what it means.
 pub fn answer_of(asked: &ExplainOptions<'_>) -> Result<Answer, Failure> {
-    let made = make(asked, None)?.0;
     match asked.report {
-        Some(report) => answer_by(asked, made, read_report(report)?),
-        None => answer_by_audit(asked, made, None),
+        Some(report) => answer_by(asked, make(asked, false, false)?.0, read_report(report)?),
+        None => {
+            let (made, _, audits) = made_and_audited(asked, false, None)?;
+            answer_by(asked, made, audits)
+        }
     }
 }
 
 /// The same; and writes the report of the original.
 pub fn answer_with_report(asked: &ExplainOptions<'_>, to: ReportTo<'_>) -> Result<(Answer, Reported), Failure> {
-    let (made, keeping) = make(asked, Some(Keeping::default()))?;
-    let mut original = keeping.unwrap_or_default().original;
-    note_joined(&mut original, &made);
-    let (answer, report) = match asked.report {
+    let (made, keeping, audits, report) = match asked.report {
         Some(path) => {
+            let (made, keeping) = make(asked, true, false)?;
             let report = File::open(path).map_err(|error| Failure::of_file(path, &error))?;
-            (answer_by(asked, made, read_report(path)?)?, report)
+            (made, keeping, read_report(path)?, report)
         }
         None => {
             let mut report = tempfile::tempfile().map_err(|error| temporary_failure(&error))?;
-            (answer_by_audit(asked, made, Some(&mut report))?, report)
+            let (made, keeping, audits) = made_and_audited(asked, true, Some(&mut report))?;
+            (made, keeping, audits, report)
         }
     };
+    let mut original = keeping.unwrap_or_default().original;
+    original.is_audited = made.capture.is_original();
+    note_joined(&mut original, &made);
+    let answer = answer_by(asked, made, audits)?;
     let reported = of_original(report, &mut original, &answer, to)?;
     Ok((answer, reported))
 }
@@ -122,15 +127,37 @@ fn fate_of(pair: &Unopened, courses: &Courses) -> Option<String> {
     }
 }
 
-fn answer_by_audit(asked: &ExplainOptions<'_>, mut made: Made, copy: Option<&mut File>) -> Result<Answer, Failure> {
+type MadeAndAudited = (Made, Option<Keeping>, Audits);
+
+/// Imports and audits. Where the original is audited in place of what is made, and was changed meanwhile, both are done
+/// anew with what is made.
+fn made_and_audited(
+    asked: &ExplainOptions<'_>,
+    keeps: bool,
+    mut copy: Option<&mut File>,
+) -> Result<MadeAndAudited, Failure> {
+    let (mut made, mut keeping) = make(asked, keeps, true)?;
     let program = program_named(asked.h2audit.clone())?;
-    let auditing = Progress::begin(asked.program, "auditing", None);
-    let audits = audited(&program, asked.options, &made.capture.path()?, copy)?;
-    drop(auditing);
+    let mut audits = audit(asked, &program, &mut made, copy.as_deref_mut());
+    if made.capture.has_changed() {
+        (made, keeping) = make(asked, keeps, false)?;
+        audits = audit(asked, &program, &mut made, copy);
+    }
+    let audits = audits?;
     if audits.len() != made.order.len() {
         return Err(broken("it has other connections"));
     }
-    answer_by(asked, made, audits)
+    Ok((made, keeping, audits))
+}
+
+fn audit(
+    asked: &ExplainOptions<'_>,
+    program: &OsStr,
+    made: &mut Made,
+    copy: Option<&mut File>,
+) -> Result<Audits, Failure> {
+    let _auditing = Progress::begin(asked.program, "auditing", None);
+    audited(program, asked.options, &mut made.capture, copy)
 }
 
 fn answer_by(asked: &ExplainOptions<'_>, mut made: Made, audits: Audits) -> Result<Answer, Failure> {
@@ -156,9 +183,10 @@ fn answer_by(asked: &ExplainOptions<'_>, mut made: Made, audits: Audits) -> Resu
     Ok(answer)
 }
 
-fn make(asked: &ExplainOptions<'_>, keeping: Option<Keeping>) -> Result<(Made, Option<Keeping>), Failure> {
-    let mut capture = PrivateFile::new()?;
-    let mut listening = Listening { learning: Learning::new()?, keeping };
+/// Imports; and keeps what a report of the original needs, where that is wanted. The original may stand for what is made.
+fn make(asked: &ExplainOptions<'_>, keeps: bool, may_stand: bool) -> Result<(Made, Option<Keeping>), Failure> {
+    let mut capture = MadeCapture::new(asked.files, may_stand && !asked.is_reordered)?;
+    let mut listening = Listening { learning: Learning::new()?, keeping: keeps.then(Keeping::default) };
     let mut courses = Courses::default();
     let mut sink = Sink::new(&mut capture, &mut listening)?;
     let ExplainOptions { program, files, key_logs, is_reordered, is_joined, .. } = *asked;

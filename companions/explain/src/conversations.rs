@@ -128,7 +128,7 @@ impl Talk {
             "{front} http2 frames {frames}\n{}",
             report.iter().map(|line| format!("{line}\n")).collect::<String>()
         );
-        let read = read_audits(text.as_bytes(), |error| Failure::Io(error.to_string()));
+        let read = read_audits(text.as_bytes(), &import::RecordsOf::same(), |error| Failure::Io(error.to_string()));
         read.ok().and_then(|mut audits| audits.pop()).map(|audit| *audit).expect("a report")
     }
 

@@ -6,6 +6,7 @@ use std::io::{self, BufReader, Read, Seek};
 use std::path::Path;
 use std::process::{Command, Stdio};
 
+use import::{MadeCapture, RecordsOf};
 use originals::{bring_back, no_report, Original};
 use programs::{printable, temporary_failure, Audit as Running, Failure, Output, H2AUDIT};
 use reports::ReadError;
@@ -36,21 +37,27 @@ pub struct ReportTo<'a> {
 /// The connections of a report that is there, which may be of some parts alone.
 pub fn read_report(path: &Path) -> Result<Audits, Failure> {
     let file = File::open(path).map_err(|error| Failure::of_file(path, &error))?;
-    read_audits(BufReader::new(file), |error| match error {
+    read_audits(BufReader::new(file), &RecordsOf::same(), |error| match error {
         ReadError::Io(error) => Failure::from_io("report", &error),
         other => Failure::Refused(format!("report refused: {other}")),
     })
 }
 
 /// The connections of the report of what was made. It goes into a file too where that is wanted.
-pub fn audited(program: &OsStr, options: &[String], path: &Path, copy: Option<&mut File>) -> Result<Audits, Failure> {
+pub fn audited(
+    program: &OsStr,
+    options: &[String],
+    capture: &mut MadeCapture,
+    copy: Option<&mut File>,
+) -> Result<Audits, Failure> {
+    let (path, records) = (capture.path()?, &capture.records());
     let mut said = tempfile::tempfile().map_err(|error| temporary_failure(&error))?;
     let errors = said.try_clone().map_err(|error| temporary_failure(&error))?;
     let mut command = Command::new(program);
     let Running { mut report, running } = Running::of(command.args(options).arg(path).stderr(Stdio::from(errors)))?;
     let read = match copy {
-        None => read_audits(report, of_h2audit),
-        Some(file) => copied(&mut report, file).and_then(|()| read_audits(BufReader::new(&*file), of_h2audit)),
+        None => read_audits(report, records, of_h2audit),
+        Some(file) => copied(&mut report, file).and_then(|()| read_audits(BufReader::new(&*file), records, of_h2audit)),
     };
     match running.status()? {
         0 | 1 => read,
@@ -83,7 +90,8 @@ fn failure_of(status: i32, said: &str) -> Failure {
 }
 
 fn copied(report: &mut impl io::Read, file: &mut File) -> Result<(), Failure> {
-    let done = io::copy(report, file).and_then(|_| file.rewind());
+    let begun = file.rewind().and_then(|()| file.set_len(0));
+    let done = begun.and_then(|()| io::copy(report, file)).and_then(|_| file.rewind());
     done.map_err(|error| temporary_failure(&error))
 }
 

@@ -252,6 +252,7 @@ impl FollowedConnection {
     }
 
     fn go_on_tls(&mut self, common: &mut Common<'_, '_>, held: Vec<Arrived>) {
+        common.sink.depart();
         self.mode = Mode::Tls(Box::new(tls::TlsConnection::new(self.number() as u64, common.shared)));
         let is_made = common.sink.is_made;
         for one in held {
@@ -392,9 +393,8 @@ impl FollowedConnection {
             _ => Became::Clear,
         };
         let preamble = self.preamble.filter(|_| !matches!(became, Became::Refused(_)));
-        let (opening, ends) = (self.opening, self.numbers.ends[CLIENT]);
         // Fragments, and packets behind this one, are the table's to tell.
-        let last = Arrival { packet: opening, nanos: 0 };
-        Outcome { opening, ends, became, preamble, fragments: 0, last }
+        let (opening, last) = (self.opening, Arrival { packet: self.opening, nanos: 0 });
+        Outcome { opening, ends: self.numbers.ends[CLIENT], became, preamble, fragments: 0, last }
     }
 }

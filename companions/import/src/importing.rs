@@ -1,5 +1,6 @@
 //! The pipeline: from files to the capture that is made, and what listens to it.
 
+mod early;
 mod join;
 
 use std::collections::HashMap;
@@ -7,8 +8,7 @@ use std::ffi::{OsStr, OsString};
 use std::fs::File;
 
 use captures::{
-    pcapng, Arrival, Decoder, Ends, Error, Fragment, Item, Packet, PassedOver, Reader, Refusal, Segment, Source,
-    STANDARD_INPUT,
+    pcapng, Arrival, Decoder, Ends, Error, Fragment, Item, Packet, PassedOver, Reader, Segment, Source, STANDARD_INPUT,
 };
 use programs::{is_typed, printable, say, Failure, Progress};
 use reports::{count, Capture};
@@ -17,11 +17,12 @@ use tls::Shared;
 use crate::bounds::Bounds;
 use crate::common::Common;
 use crate::course::Courses;
+use crate::importing::early::Early;
 use crate::joining::Joining;
 use crate::others::Others;
 use crate::outcomes::{Back, Older, Summary};
 use crate::reorder::{Held, Reorder};
-use crate::sink::{Problem, Sink};
+use crate::sink::Sink;
 use crate::table::Table;
 
 /// Datagrams whose fragments are known to be of some connection.
@@ -139,43 +140,6 @@ fn bytes_of(files: &[OsString]) -> Option<u64> {
     files.iter().map(|path| Source::size(path).ok().flatten()).sum()
 }
 
-/// What ends the work early.
-enum Early {
-    Capture(Error),
-    Problem(Problem),
-}
-
-impl From<Error> for Early {
-    fn from(error: Error) -> Early {
-        Early::Capture(error)
-    }
-}
-
-impl From<Failure> for Early {
-    fn from(failure: Failure) -> Early {
-        Early::Problem(Problem::Failed(failure))
-    }
-}
-
-impl Early {
-    fn failure(self, path: Option<&OsString>) -> Failure {
-        match self {
-            Early::Capture(Error::Refused(refusal)) => Failure::Refused(refused(&refusal, path)),
-            Early::Capture(Error::Io(error)) => match path {
-                Some(path) if path != STANDARD_INPUT => Failure::of_file(path, &error),
-                _ => Failure::from_io("standard input", &error),
-            },
-            Early::Problem(Problem::BadTime) => Failure::Refused(refused(&Refusal::named("bad-time"), path)),
-            Early::Problem(Problem::Failed(failure)) => failure,
-        }
-    }
-}
-
-/// What is said of a capture that is refused, with the file where it is known.
-fn refused(refusal: &Refusal, path: Option<&OsString>) -> String {
-    path.map_or_else(|| refusal.to_string(), |path| refusal.of_file(&printable(path)))
-}
-
 /// Takes files, and hands their segments to the table of connections.
 struct Importer<'a, 'b> {
     common: Common<'a, 'b>,
@@ -215,9 +179,10 @@ impl<'a, 'b> Importer<'a, 'b> {
 
     /// Reads a file, and answers whether bytes stood behind the end of what gzip packed.
     fn file(&mut self, path: &OsStr) -> Result<bool, Early> {
-        let source = Source::open_counted(path, Progress::add)?;
+        let source = self.common.sink.source(path)?;
         self.common.sink.listener.begin_file(path, self.packets);
         let mut reader = Reader::new(source)?;
+        self.common.sink.begin_original(&reader);
         self.begin_original(path, &reader)?;
         while let Some(item) = self.next_of(&mut reader)? {
             match item {
@@ -271,6 +236,7 @@ impl<'a, 'b> Importer<'a, 'b> {
         }
         // What was found is not moved: it is large.
         let decoded = self.decoder.segment(packet);
+        self.common.sink.look_at(packet, decoded.as_ref().ok().and_then(|found| found.as_ref().ok()));
         let segment = match &decoded {
             Ok(Ok(segment)) => segment,
             Ok(Err(why)) => {
@@ -293,7 +259,10 @@ impl<'a, 'b> Importer<'a, 'b> {
         }
         let kept = match (&mut self.joining, &taken) {
             (Some(joining), Ok(taken)) => joining.opened(taken, arrival, segment),
-            (Some(joining), Err(stray)) => joining.take(self.common.shared, *stray, arrival, segment),
+            (Some(joining), Err(stray)) => {
+                self.common.sink.depart(); // packets of what is joined come behind all others
+                joining.take(self.common.shared, *stray, arrival, segment)
+            }
             (None, _) => Ok(()),
         };
         kept.map_err(Early::from)
@@ -381,6 +350,7 @@ impl<'a, 'b> Importer<'a, 'b> {
         }
         let (mut outcomes, mut unopened) = std::mem::take(&mut self.table).finish_all(&mut self.common);
         ended.complete(&mut outcomes, &mut unopened);
+        self.common.sink.look_at_count(self.counts.segments);
         let summary = Summary {
             joined: std::mem::take(&mut ended.joined),
             gaps: std::mem::take(&mut ended.gaps),

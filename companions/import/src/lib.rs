@@ -16,6 +16,8 @@
 //! - what is passed over, and at the end the [`Summary`], which says what became of each connection;
 //! - `begin_anew`, where all files are read once more, as the sessions in them gave more keys.
 //!
+//! [`MadeCapture`] is a target for h2audit, which reads the original in its place as long as both mean the same.
+//!
 //! [`Courses`] has, after the import, what TCP did on each connection, where that is asked for; the memory for it is
 //! bounded by connections and by the stretches of time in which TCP held back what a side sends.
 //!
@@ -51,6 +53,7 @@ mod importing;
 mod joined_lines;
 mod joining;
 mod listener;
+mod made;
 mod map_file;
 mod others;
 mod outcomes;
@@ -62,6 +65,7 @@ mod room;
 mod sent;
 mod shifted;
 mod sink;
+mod standing;
 mod table;
 mod tracked;
 mod waiting;
@@ -75,6 +79,7 @@ pub use course::{Again, Courses, Held, Side, TcpCourse, Uncaptured, Why, NEVER};
 pub use importing::{imported, ImportOptions};
 pub use joined_lines::{is_of_joined, lines_of as joined_lines, said_by as joined_said, Said as JoinedLines};
 pub use listener::{Files, Listener, Record, Sender, Written};
+pub use made::MadeCapture;
 pub use map_file::MapFile;
 pub use others::{is_tunnel, Kind, Other};
 pub use outcomes::{
@@ -83,4 +88,5 @@ pub use outcomes::{
 };
 pub use preamble::Preamble;
 pub use sink::{Problem, Sink, Target};
+pub use standing::RecordsOf;
 pub use tls::{CLIENT, SERVER};

@@ -73,19 +73,22 @@ pub struct Written<'a> {
     pub end: usize,
     /// How many bytes the datagram had.
     pub original: u32,
+    /// Whether it is that of its packet as it stands.
+    pub is_whole: bool,
 }
 
 impl<'a> Written<'a> {
     /// A segment as it stands.
     pub(crate) fn whole(segment: &'a Segment<'_>) -> Written<'a> {
-        Written { parts: segment.datagram(), original: segment.original, ..Written::like(segment, segment.end) }
+        let original = segment.original;
+        Written { parts: segment.datagram(), original, is_whole: true, ..Written::like(segment, segment.end) }
     }
 
     /// The same, of one that was found before.
     #[inline]
     pub(crate) fn standing(found: &InIpv4<'a>) -> Written<'a> {
         let InIpv4 { datagram, original, sequence, flags, start, end, .. } = *found;
-        Written { sequence, flags, parts: [&[], datagram], start, end, original }
+        Written { sequence, flags, parts: [&[], datagram], start, end, original, is_whole: true }
     }
 
     /// A segment without its payload, for whose datagram there is some room.
@@ -103,7 +106,7 @@ impl<'a> Written<'a> {
 
     fn like(segment: &Segment<'_>, end: usize) -> Written<'a> {
         let Segment { sequence, flags, start, .. } = *segment;
-        Written { sequence, flags, parts: [&[]; 2], start, end, original: 0 }
+        Written { sequence, flags, parts: [&[]; 2], start, end, original: 0, is_whole: false }
     }
 
     pub fn payload(&self) -> &'a [u8] {

@@ -105,7 +105,8 @@ impl Numbers {
         let flags = PUSH_AND_ACK;
         let headers = made_headers(ends, [sequence, answer], flags, content.len());
         let parts = [&headers[..], content];
-        let segment = Written { sequence, flags, parts, start: MADE_HEADERS, end: total, original: total as u32 };
+        let (start, original) = (MADE_HEADERS, total as u32);
+        let segment = Written { sequence, flags, parts, start, end: total, original, is_whole: false };
         sink.emit(arrival, Some(self.sender(sink, side)), segment);
     }
 

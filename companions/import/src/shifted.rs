@@ -46,7 +46,8 @@ impl Shift {
             headers[2..4].copy_from_slice(&((said - cut) as u16).to_be_bytes());
         }
         let parts = [&headers[..], &segment.payload()[cut..]];
-        Written { sequence, flags, parts, start, end: end - cut, original: original.saturating_sub(cut as u32) }
+        let original = original.saturating_sub(cut as u32);
+        Written { sequence, flags, parts, start, end: end - cut, original, is_whole: false }
     }
 }
 

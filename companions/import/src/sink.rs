@@ -1,10 +1,12 @@
 //! Takes the packets of the capture that is made, and numbers them. It keeps its first error, so that nothing that
 //! emits has to hand on errors of files.
 
+use std::ffi::OsStr;
+use std::fs::File;
 use std::io::{self, Write};
 
-use captures::{pcap, Arrival, RAW};
-use programs::{temporary_failure, Failure, Output, PrivateFile};
+use captures::{pcap, Arrival, Error, Packet, Reader, Segment, Source, RAW};
+use programs::{temporary_failure, Failure, Output, PrivateFile, Progress};
 
 use crate::listener::{Listener, Record, Sender, Written};
 
@@ -15,6 +17,24 @@ pub trait Target: Write {
 
     /// Names it as what could not be written.
     fn failure(&self, error: &io::Error) -> Failure;
+
+    /// The original, from its beginning, where it may stand for what is made.
+    fn original(&mut self) -> io::Result<Option<File>> {
+        Ok(None)
+    }
+
+    /// Begins with an original that has this header.
+    fn begin_original(&mut self, _header: pcap::Header) {}
+
+    /// Whether a record need not be written, as the original has it: its packet, and its connection.
+    fn spares(&mut self, _packet: u64, _connection: Option<usize>) -> bool {
+        false
+    }
+
+    /// From here on all is written, behind what was spared.
+    fn depart(&mut self) -> io::Result<()> {
+        Ok(())
+    }
 }
 
 impl Target for Output {
@@ -53,6 +73,8 @@ pub struct Sink<'a> {
     problem: Option<Problem>,
     /// Whether what is written now is made up.
     pub(crate) is_made: bool,
+    /// Whether the original stands for all that was made so far.
+    is_spared: bool,
 }
 
 impl<'a> Sink<'a> {
@@ -60,7 +82,55 @@ impl<'a> Sink<'a> {
         let written = pcap::write_header(target, RAW);
         written.map_err(|error| target.failure(&error))?;
         let writer = pcap::Writer::after_header(target);
-        Ok(Sink { writer, listener, count: 0, opened: Vec::new(), problem: None, is_made: false })
+        Ok(Sink { writer, listener, count: 0, opened: Vec::new(), problem: None, is_made: false, is_spared: false })
+    }
+
+    /// What is read of a file.
+    pub(crate) fn source(&mut self, path: &OsStr) -> Result<Source, Error> {
+        match self.writer.get_mut().original()? {
+            Some(file) => {
+                self.is_spared = true;
+                Source::of_file(file, Progress::add)
+            }
+            None => Source::open_counted(path, Progress::add),
+        }
+    }
+
+    /// A file begins, which is the original if there is one.
+    pub(crate) fn begin_original(&mut self, reader: &Reader) {
+        let header = match reader {
+            Reader::Pcap(pcap) if self.is_spared && reader.next_place().is_some() => Some(pcap.header()),
+            _ => None,
+        };
+        let audited = header.filter(|header| captures::is_audited(header.link));
+        self.is_spared = audited.is_some();
+        audited.into_iter().for_each(|header| self.writer.get_mut().begin_original(header));
+    }
+
+    /// Looks at a packet in which this segment was found, or none.
+    #[inline]
+    pub(crate) fn look_at(&mut self, packet: &Packet<'_>, segment: Option<&Segment<'_>>) {
+        if self.is_spared && !segment.map_or(packet.link.is_some(), |segment| segment.stands_in(packet)) {
+            self.depart();
+        }
+    }
+
+    /// All packets were read, which had so many segments.
+    pub(crate) fn look_at_count(&mut self, segments: u64) {
+        if self.is_spared && self.count != segments {
+            self.depart();
+        }
+    }
+
+    /// From here on the original no longer stands for what is made.
+    #[inline(never)]
+    pub(crate) fn depart(&mut self) {
+        if std::mem::take(&mut self.is_spared) {
+            let target = self.writer.get_mut();
+            if let Err(error) = target.depart() {
+                self.problem.get_or_insert(Problem::Failed(target.failure(&error)));
+            }
+        }
     }
 
     /// Takes back all that was written.
@@ -69,6 +139,7 @@ impl<'a> Sink<'a> {
         let begun = target.begin_anew().and_then(|()| pcap::write_header(*target, RAW));
         begun.map_err(|error| target.failure(&error))?;
         self.count = 0;
+        self.is_spared = false;
         self.opened.clear();
         self.listener.begin_anew()
     }
@@ -76,9 +147,23 @@ impl<'a> Sink<'a> {
     /// Writes a segment of a connection, or of none.
     pub fn emit(&mut self, arrival: Arrival, sender: Option<Sender>, segment: Written<'_>) {
         if self.may_write(arrival) {
-            let written = self.writer.write(arrival.nanos, segment.original, segment.parts);
+            let written = match self.is_spared && self.spares(arrival, sender, &segment) {
+                true => Ok(()),
+                false => self.writer.write(arrival.nanos, segment.original, segment.parts),
+            };
             self.emitted(written, arrival, sender, segment);
         }
+    }
+
+    /// Whether a record need not be written. Of a stray, which has no payload, h2audit counts packets alone.
+    fn spares(&mut self, arrival: Arrival, sender: Option<Sender>, segment: &Written<'_>) -> bool {
+        let is_as_it_stands = !self.is_made && (segment.is_whole || sender.is_none());
+        let connection = sender.map(|sender| sender.connection);
+        let is_spared = is_as_it_stands && self.writer.get_mut().spares(arrival.packet, connection);
+        if !is_spared {
+            self.depart();
+        }
+        is_spared
     }
 
     #[inline]

@@ -102,6 +102,8 @@ pub struct Original {
     /// What is to be said of times that go back.
     pub back: Option<String>,
     pub others: Vec<Other>,
+    /// Whether it is audited itself, so that records are its packets, and the report has packets that were passed over.
+    pub is_audited: bool,
 }
 
 impl Default for Original {
@@ -116,6 +118,7 @@ impl Default for Original {
             fates: HashMap::new(),
             back: None,
             others: Vec::new(),
+            is_audited: false,
         }
     }
 }
@@ -175,6 +178,9 @@ impl Original {
 
     /// The packet that completed a record; records count from 1.
     pub fn packet(&self, record: u64) -> Option<u64> {
+        if self.is_audited {
+            return Some(record).filter(|record| (1..=self.capture.records).contains(record));
+        }
         self.packets.get(usize::try_from(record.checked_sub(1)?).ok()?).copied()
     }
 

@@ -99,6 +99,8 @@ impl<W: Write> Back<'_, W> {
                 Some(Line::Opening(opening)) => self.connection(&opening),
                 _ => Err(Broken::NoReport),
             },
+            // What is said of these stands there already.
+            Some("record") if self.original.is_audited => Ok(()),
             _ if self.is_left_out => Ok(()),
             Some("frame") => self.finding(text),
             Some("stall" | "audit") if self.beginning.is_some() => self.behind_beginning(text),

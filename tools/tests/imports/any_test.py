@@ -146,11 +146,11 @@ class Endings(InFolder):
                 self.assertEqual(found, wanted, words)
 
     def test_folder_of_temporary_files(self) -> None:
-        """One that is full or is not there is named as what it is."""
+        """One that is full or is not there is named as what it is. What is put in order is always written."""
         named = "the folder of temporary files (TMPDIR)"
         for script, why in (
             ("TMPDIR=$D/none $ANY $P", f"{self.folder}/none, {named}: No such file or directory"),
-            ("trap '' XFSZ; ulimit -f 0; TMPDIR=$D $ANY $P", f"{self.folder}, {named}: File too large"),
+            ("trap '' XFSZ; ulimit -f 0; TMPDIR=$D $ANY --reorder $P", f"{self.folder}, {named}: File too large"),
         ):
             self.assertEqual(self.run_shell(f"({script}); echo $?"), ("4\n", f"h2audit-any: {why}\n"))
         self.assertEqual(os.listdir(self.folder), [])

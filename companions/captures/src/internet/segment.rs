@@ -2,7 +2,7 @@
 
 use super::{IPV4_HEADER, TCP_HEADER};
 use crate::bytes::{u16_at, u32_at};
-use crate::link_layers::{payload_of, IPV4_TYPE};
+use crate::link_layers::{is_audited_at, payload_of, IPV4_TYPE};
 use crate::packets::Packet;
 
 /// Source and destination address, source and destination port.
@@ -68,6 +68,13 @@ impl<'a> Segment<'a> {
     #[inline]
     pub fn has_payload(&self) -> bool {
         self.end > self.start
+    }
+
+    /// Whether h2audit finds it in its packet, as that stands.
+    #[inline]
+    pub fn stands_in(&self, packet: &Packet<'_>) -> bool {
+        let at = packet.data.len().saturating_sub(self.rest.len());
+        self.front_length == 0 && packet.link.map_or(false, |link| is_audited_at(link, packet.data, at))
     }
 
     /// That of a datagram of IPv4 which is known to hold one.

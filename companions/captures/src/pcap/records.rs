@@ -16,7 +16,12 @@ pub struct Records {
 
 impl Records {
     pub fn open(path: &OsStr, header: Header) -> io::Result<Records> {
-        File::open(path).map(|file| Records { view: FileView::new(file), header })
+        File::open(path).map(|file| Records::of(file, header))
+    }
+
+    /// Those of a file that is open, whose own place stays.
+    pub fn of(file: File, header: Header) -> Records {
+        Records { view: FileView::new(file), header }
     }
 
     /// The packet of the record that begins at a place, and where that ends; none where the file ends before that. The

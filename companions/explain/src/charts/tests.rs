@@ -7,7 +7,7 @@ const OPENED: At = At { packet: 1, time: 10, frame: 1 };
 fn audit(lines: &str) -> Audit {
     let front = "capture records 9 segments 9 snapped 0 not-ipv4 0 fragments 0 not-tcp 0 refused 0\n\
         connection 1 client 10.0.0.1:1 server 10.0.0.2:2 record 1 http2 frames 9\n";
-    let audits = read_audits(format!("{front}{lines}").as_bytes(), of_h2audit).ok();
+    let audits = read_audits(format!("{front}{lines}").as_bytes(), &import::RecordsOf::same(), of_h2audit).ok();
     audits.and_then(|mut audits| audits.pop()).map(|audit| *audit).expect("a report")
 }
 
