@@ -7,6 +7,7 @@ mod StreamFrames
 mod AlikeLemmas
 mod ChangeLemmas
 mod PassLemmas
+mod RoomLemmas
 mod SaidLemmas
 mod GroupLemmas
 mod ShiftedLemmas

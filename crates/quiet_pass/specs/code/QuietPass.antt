@@ -1,13 +1,16 @@
 -- What the machine stands for that meets a connection's frames.
-use Rattle.std.specs.Prelude.{◌≡◌, ℕ, ◌<◌, Bool, false, ◌&&◌, List, [], Option, is_none}
+use Rattle.std.specs.Prelude.{◌≡◌, ℕ, ◌<◌, ◌^◌, Bool, false, ◌&&◌, List, [], Option, is_none}
 use Rattle.std.specs.List.{AllByRecursion}
+use Rattle.std.specs.Option.{ForSome}
 use Rattle.audit_terms.specs.declared.frames.Frame.{Frame}
 use Rattle.audit_terms.specs.declared.items.Change.{Change}
+use Rattle.audit_terms.specs.declared.settings.Settings.{Settings}
 use Rattle.audit_terms.specs.declared.stream_state.Stream.{Stream}
-use Rattle.audit_terms.specs.Frame.{is_ack, is_server_promise, needs_opening, settings_in}
+use Rattle.audit_terms.specs.Frame.{increment, is_ack, is_server_promise, needs_opening, settings_in}
 use Rattle.audit_terms.specs.Life.{is_opening}
 use Rattle.audit_terms.specs.InForce.{InForce}
 use Rattle.audit_terms.specs.Pass.{PassState, next, said}
+use Rattle.audit_terms.specs.code.Room.{HaveRoom, WindowHasRoom}
 use Rattle.audit_terms.specs.code.runs.Streams.{initial_after}
 use Rattle.quiet_pass.specs.declared.passes.QuietPass.{QuietPass}
 use Rattle.stream_credit.specs.code.Standings.{AreQuiet}
@@ -24,6 +27,21 @@ pub record StandsFor (machine : QuietPass) (state : PassState) : Type 0 where
   pub initial : machine.initial ≡ state.in_force.initial
   pub connection : connection_of machine.connection ≡ state.connection
   pub streams : AreStreams state.streams machine.streams
+
+-- the initial window that settings say, if they do, is of 32 bits
+abbrev pub IsInitialSmall : Settings → Type 0
+IsInitialSmall settings = ForSome settings.initial (λ initial. initial < 2 ^ 32)
+
+-- what a frame grants, and the initial window that it says, are of 32 bits: so a frame moves a credit by 2^32 at most
+pub record MovesLittle (frame : Frame) : Type 0 where
+  pub grant : increment frame.body < 2 ^ 32
+  pub initial : AllByRecursion IsInitialSmall (settings_in frame.body)
+
+-- no credit of the connection or of a stream is so far from 0 that the next frame could move it out of what code counts
+pub record HasRoomLeft (state : PassState) : Type 0 where
+  pub connection : HaveRoom (2 ^ 60) state.connection.credit
+  pub client : (stream : ℕ) → WindowHasRoom (2 ^ 60) (state.streams stream).window.client
+  pub server : (stream : ℕ) → WindowHasRoom (2 ^ 60) (state.streams stream).window.server
 
 -- streams other than 0
 abbrev pub AreNamed : List ℕ → Type 0
