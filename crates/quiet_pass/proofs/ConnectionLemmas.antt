@@ -15,17 +15,14 @@ use Rattle.quiet_pass.specs.code.Connection.{IsLoneCredit, IsOpenedAfter, IsProm
 
 pub connection-met : (frame : Frame) (opens : Bool) (change : Option Change) (old : KeptConnection)
     (opened promised push : ℕ) (credit : Sides ℤ) (limit : Sides ℕ)
-    → nat_lt (new_limit change frame.side (side_of frame.side old.limit)) frame.length ≡ false
-    → IsOpenedAfter frame opens old.opened opened → IsPromisedAfter frame old.push old.promised promised
-    → AreCreditsAfter frame old.credit credit → push ≡ new_push change old.push
-    → limit.client ≡ new_limit change Client old.limit.client
-    → limit.server ≡ new_limit change Server old.limit.server
+    → nat_lt (new_limit change frame.side (side_of frame.side old.state.limit)) frame.length ≡ false
+    → IsOpenedAfter frame opens old.state.opened opened
+    → IsPromisedAfter frame old.state.push old.state.promised promised → AreCreditsAfter frame old.state.credit credit
+    → push ≡ new_push change old.state.push
+    → limit.client ≡ new_limit change Client old.state.limit.client
+    → limit.server ≡ new_limit change Server old.state.limit.server
     → IsConnectionAfter frame opens change old (record {
-      credit = credit;
-      opened = opened;
-      promised = promised;
-      push = push;
-      limit = limit;
+      state = record { credit = credit; opened = opened; promised = promised; push = push; limit = limit };
     })
 connection-met frame opens change old opened promised push credit limit short o p c pushed lc ls =
     record {
@@ -95,8 +92,9 @@ unpromised frame push promised none = record {
 }
 
 pub lone-met : (frame : Frame) (old : KeptConnection) (credit : Sides ℤ) → is_server_promise frame ≡ false
-    → nat_lt (side_of frame.side old.limit) frame.length ≡ false → AreCreditsAfter frame old.credit credit
-    → IsLoneCredit frame old credit
+    → nat_lt (side_of frame.side old.state.limit) frame.length ≡ false
+    → AreCreditsAfter frame old.state.credit credit → IsLoneCredit frame old credit
 lone-met frame old credit none short moves =
-    connection-met frame false None old old.opened old.promised old.push credit old.limit short
-    (record { opened = λ _. refl; said = λ _. refl }) (unpromised frame old.push old.promised none) moves refl refl refl
+    let now = old.state in
+    connection-met frame false None old now.opened now.promised now.push credit now.limit short
+    (record { opened = λ _. refl; said = λ _. refl }) (unpromised frame now.push now.promised none) moves refl refl refl

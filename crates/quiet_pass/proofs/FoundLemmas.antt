@@ -4,7 +4,6 @@ use Rattle.std.proofs.Common.{◌≢◌, ◌≤◌, find}
 use Rattle.audit_core.specs.laws.Apart.{EachPair}
 use Rattle.audit_core.specs.laws.Streams.{StreamsAreNamedOnce, StreamsAreThoseMet}
 use Rattle.audit_terms.proofs.FindingLists.{each-append, each-weaker}
-use Rattle.audit_terms.proofs.OrderlyFrames.{orderly-earlier}
 use Rattle.audit_terms.proofs.ShownFindings.{shown-append}
 use Rattle.audit_terms.proofs.UptoStop.{upto_stop-shown}
 use Rattle.audit_terms.specs.Finding.{stops}
@@ -17,7 +16,7 @@ use Rattle.quiet_pass.proofs.PassLemmas.{full-append, full-more, named-all, stat
 use Rattle.quiet_pass.specs.code.FoundConnections.{IsNamedAlike}
 use Rattle.quiet_pass.specs.code.FoundPass.{AreBelow, AreFramesKept, HasSaid, HaveAllMet, IsFoundAfter, IsFrameKept}
 use Rattle.quiet_pass.specs.code.FoundPass.{named_with, IsAdded}
-use Rattle.quiet_pass.specs.code.QuietPass.{IsQuietStep}
+use Rattle.quiet_pass.specs.code.QuietPass.{IsQuietStep, MovesLittle}
 use Rattle.quiet_pass.specs.code.SaidFrames.{HaveOwn, IsSaidStep}
 use Rattle.quiet_pass.specs.declared.found_passes.FoundPass.{FoundPass}
 use Rattle.stream_credit.proofs.QuietSteps.{none-shown}
@@ -120,25 +119,23 @@ orderly-below low [] frame h = tt
 orderly-below low (one ∷ frames) frame h =
     (omega (arith, orderly-least (one.number + 1) frames frame h.2), orderly-below (one.number + 1) frames frame h.2)
 
-orderly-range : (low : ℕ) (frames : List Frame) (frame : Frame) → IsOrderlyFrom low (frames ++ frame ∷ [])
+pub orderly-range : (low : ℕ) (frames : List Frame) (frame : Frame) → IsOrderlyFrom low (frames ++ frame ∷ [])
     → IsInRange frame
 orderly-range low [] frame h = h.1
 orderly-range low (one ∷ frames) frame h = orderly-range (one.number + 1) frames frame h.2
 
--- a front of such frames, and those behind it
+-- a front of such frames
 pub orderly-upto : (low : ℕ) (front back : List Frame) → IsOrderlyFrom low (front ++ back) → IsOrderlyFrom low front
 orderly-upto low [] back h = tt
 orderly-upto low (one ∷ front) back h = (h.0, h.1, orderly-upto (one.number + 1) front back h.2)
 
-pub orderly-back : (low : ℕ) (front back : List Frame) → IsOrderlyFrom low (front ++ back) → IsOrderly back
-orderly-back low [] back h = orderly-earlier 0 low back (omega arith) h
-orderly-back low (one ∷ front) back h = orderly-back (one.number + 1) front back h.2
-
-pub orderly-first : (frame : Frame) (frames : List Frame) → IsOrderly (frame ∷ frames) → IsInRange frame
-orderly-first frame frames h = h.1
-
-pub orderly-rest : (frame : Frame) (frames : List Frame) → IsOrderly (frame ∷ frames) → IsOrderly frames
-orderly-rest frame frames h = orderly-earlier 0 (frame.number + 1) frames (omega arith) h.2
+-- of such frames, those up to one of them
+pub upto-next : (front : List Frame) (frame : Frame) (left all : List Frame) {back : List Frame} → back ≡ frame ∷ left
+    → front ++ back ≡ all → IsOrderly all → ((front ++ frame ∷ []) ++ left ≡ all) × IsOrderly (front ++ frame ∷ [])
+upto-next front frame left all is same orderly =
+    let whole : (front ++ frame ∷ []) ++ left ≡ all =
+    append_assoc front (frame ∷ []) left ∙ ap (λ l. front ++ l) (sym is) ∙ same in
+    (whole, orderly-upto 0 (front ++ frame ∷ []) left (subst IsOrderly (sym whole) orderly))
 
 orderly-more : (low : ℕ) (frames : List Frame) (frame : Frame) → IsOrderlyFrom low frames
     → AreBelow frame.number frames → IsInRange frame → low ≤ frame.number → IsOrderlyFrom low (frames ++ frame ∷ [])
@@ -257,6 +254,7 @@ stays {frames} {machine} frame stopped h orderly = record {
   met = h.met;
   rest = h.rest ++ frame ∷ [];
   parts = ap (λ l. l ++ frame ∷ []) h.parts ∙ append_assoc h.met h.rest (frame ∷ []);
+  little = h.little;
   shown = h.shown;
   goes_on = λ e. absurd (differ machine.has_stopped stopped e);
   stopped = h.stopped;
@@ -268,7 +266,10 @@ stays {frames} {machine} frame stopped h orderly = record {
     differ false p q = cc
 
 module _ {frames : List Frame} {old : FoundPass} (frame : Frame) (h : IsFoundAfter frames old)
-    (on : old.has_stopped ≡ false) (orderly : IsOrderly (frames ++ frame ∷ [])) where
+    (on : old.has_stopped ≡ false) (small : MovesLittle frame) (orderly : IsOrderly (frames ++ frame ∷ [])) where
+  all-little : AllByRecursion MovesLittle (h.met ++ frame ∷ [])
+  all-little = each-append MovesLittle h.met (frame ∷ []) h.little (small, tt)
+
   whole : frames ++ frame ∷ [] ≡ (h.met ++ frame ∷ []) ++ []
   whole =
       ap (λ l. l ++ frame ∷ []) (h.parts ∙ ap (λ l. h.met ++ l) (h.goes_on on).0 ∙ append-nil h.met)
@@ -290,6 +291,7 @@ module _ {frames : List Frame} {old : FoundPass} (frame : Frame) (h : IsFoundAft
     met = h.met ++ frame ∷ [];
     rest = [];
     parts = whole;
+    little = all-little;
     shown = λ streams name.
         shown-here streams [] (none-shown _ (step.shown streams name.named)) name
         ∙ append-nil old.found.items ∙ ap (λ l. l.items) (sym found);
@@ -304,6 +306,7 @@ module _ {frames : List Frame} {old : FoundPass} (frame : Frame) (h : IsFoundAft
     met = h.met ++ frame ∷ [];
     rest = [];
     parts = whole;
+    little = all-little;
     shown = λ streams name.
         shown-here streams here (step.shown streams (have-own h.met name)) name ∙ sym added.found;
     goes_on = λ e. (refl, rw (state-more frame pass_start h.met) (step.goes_on (sym added.stopped ∙ e)));
@@ -314,14 +317,14 @@ module _ {frames : List Frame} {old : FoundPass} (frame : Frame) (h : IsFoundAft
 
 -- the same of what the code says, whose machine did not meet the frame quietly just before
 pub said-after : {E : Type 0} (frame : Frame) (old mid new : FoundPass) (result : Result Bool E)
-    → old.has_stopped ≡ false → mid.pass ≡ old.pass
+    → old.has_stopped ≡ false → MovesLittle frame → mid.pass ≡ old.pass
     → IfOk result (λ said. OnTrue said (HasSaid frame mid new)) → mid.found ≡ old.found → mid.shown_at ≡ old.shown_at
     → IfOk result (λ met. OnTrue met ((frames : List Frame) → IsFoundAfter frames old
     → IsOrderly (frames ++ frame ∷ []) → IsFoundAfter (frames ++ frame ∷ []) new))
-said-after frame old mid new result on left spoken found shown_at =
+said-after frame old mid new result on small left spoken found shown_at =
     IfOk-weaker result _ _ (λ b h. OnTrue_from b _ (λ e. λ frames before orderly.
     let has = OnTrue_at e h in
-    said-more frame before on orderly has.said
+    said-more frame before on small orderly has.said
     (has.step (state_after before.met) (rw left (before.goes_on on).1))
     (record {
       found = rw (← found) has.added.found;

@@ -7,10 +7,10 @@ mod StreamFrames
 mod AlikeLemmas
 mod ChangeLemmas
 mod PassLemmas
-mod RoomLemmas
 mod SaidLemmas
 mod GroupLemmas
 mod ShiftedLemmas
 mod SettingsLemmas
 mod FoundLemmas
+mod RoomLemmas
 mod OpenedLemmas

@@ -21,7 +21,7 @@ use Rattle.quiet_pass.specs.declared.kept_streams.Streams.{Streams}
 use Rattle.stream_credit.specs.code.Standings.{IsQuiet, AreQuiet}
 use Rattle.audit_terms.specs.code.LastFrame.{last_of}
 use Rattle.settings_pair.specs.code.Pending.{IsPending, IsBrought}
-use Rattle.quiet_pass.specs.code.Connection.{connection_of, as_item, IsConnectionAfter}
+use Rattle.quiet_pass.specs.code.Connection.{as_item, IsConnectionAfter}
 use Rattle.quiet_pass.specs.code.Streams.{AreStreams, AreMet, AreMetOn}
 use Rattle.quiet_pass.specs.code.QuietPass.{AreNamed, BringsNothing, HasBrought, IsQuietStep, IsRestMet, StandsFor}
 use Rattle.stream_credit.proofs.StandingLemmas.{promises-other}
@@ -137,7 +137,7 @@ module _ (frame : Frame) (old mid : QuietPass) (state : PassState) (stands : Sta
   connection-quiet : AreQuiet (connection_said state.connection (item_of state frame))
   connection-quiet =
       subst (λ (now : ConnectionState). AreQuiet (connection_said now (item_of state frame))) stands.connection
-      (subst (λ (item : Item). AreQuiet (connection_said (connection_of old.connection) item)) item
+      (subst (λ (item : Item). AreQuiet (connection_said old.connection.state item)) item
       rest.connection.said)
 
   pub step-met : (last : Sides LastFrame)
@@ -162,7 +162,7 @@ module _ (frame : Frame) (old mid : QuietPass) (state : PassState) (stands : Sta
       initial = rest.initial ∙ ap (λ (c : Option Change). initial_after c old.initial) (sym own.brings)
           ∙ ap (initial_after (change_of state.in_force frame)) stands.initial;
       connection = rest.connection.after
-          ∙ ap (λ (item : Item). connection_after (connection_of old.connection) item) item
+          ∙ ap (λ (item : Item). connection_after old.connection.state item) item
           ∙ ap (λ (now : ConnectionState). connection_after now (item_of state frame)) stands.connection;
       streams = all.after;
     };

@@ -11,22 +11,27 @@ use Rattle.audit_terms.specs.Pass.{PassState, next, pass_start, step_of}
 use Rattle.audit_terms.specs.{Side.is_side, Side.other, Sides.side_of}
 use Rattle.audit_terms.specs.Stream.{opens, step_amount, step_test, window_after, window_at_opening}
 use Rattle.audit_terms.specs.Stream.{window_step}
-use Rattle.audit_terms.specs.code.Room.{HasRoom, WindowHasRoom}
+use Rattle.audit_terms.specs.code.Room.{HasRoom, HaveRoom, WindowHasRoom}
 use Rattle.audit_terms.specs.code.runs.Orderly.{IsInRange, IsOrderly, IsOrderlyFrom}
 use Rattle.audit_terms.specs.code.runs.States.{state_after, state_from}
+use Rattle.audit_terms.specs.declared.connection_state.ConnectionState.{ConnectionState}
 use Rattle.audit_terms.specs.declared.{frames.Body.Body, frames.Body.TheVariants.SettingsAck, frames.Frame.Frame}
 use Rattle.audit_terms.specs.declared.{items.Change.Change, settings.Settings.Settings, sides.Side.Side}
 use Rattle.audit_terms.specs.declared.sides.{Side.TheVariants.Client, Side.TheVariants.Server}
 use Rattle.audit_terms.specs.declared.stream_state.Stream.{Stream}
 use Rattle.std.proofs.Common.{Bool, List, None, Option, Some, [], ap, arith, false, if◌then◌else◌, inl, inr, length, pos}
 use Rattle.std.proofs.Common.{refl, slice_get, subst, suc, true, zero, ℕ, ℤ, ◌&&◌, ◌*◌, ◌++◌, ◌+◌, ◌+ℤ◌, ◌-ℤ◌, ◌<◌}
-use Rattle.std.proofs.Common.{◌∷◌, ◌≡◌, ◌≤◌, ◌⊎◌, ◌^◌, ◌==◌, ◌||◌, length-append}
+use Rattle.std.proofs.Common.{◌∷◌, ◌≡◌, ◌≤◌, ◌⊎◌, ◌^◌, ◌==◌, ◌||◌, length-append, ◌∙◌, append-nil, sym}
 use Rattle.std.proofs.Math.Bool.{and-false}
 use Rattle.std.proofs.lemmas.Bool.{cond_both}
 use Rattle.std.proofs.lemmas.Int.{ints}
 use Rattle.std.specs.List.{AllByRecursion}
 use Rattle.std.specs.Option.{ForSome, option_map_or, unwrap_or}
-use Rattle.quiet_pass.specs.code.QuietPass.{HasRoomLeft, IsInitialSmall, MovesLittle}
+use Rattle.quiet_pass.proofs.FoundLemmas.{orderly-upto}
+use Rattle.quiet_pass.specs.code.FoundPass.{IsFoundAfter}
+use Rattle.quiet_pass.specs.code.QuietPass.{HasRoomKept, HasRoomLeft, IsInitialSmall, MovesLittle}
+use Rattle.quiet_pass.specs.declared.found_passes.FoundPass.{FoundPass}
+use Rattle.quiet_pass.specs.declared.passes.QuietPass.{QuietPass}
 
 -- ---- one credit
 
@@ -264,11 +269,6 @@ bounded-after bound low state (frame ∷ frames) orderly little is =
     (bounded-after (bound + 2 ^ 32) (frame.number + 1) (next state frame) frames orderly.2 little.1
     (bounded-next bound state frame orderly.1 little.0 is))
 
-orderly-front : (low : ℕ) (frames more : List Frame) → IsOrderlyFrom low (frames ++ more) → IsOrderlyFrom low frames
-orderly-front low [] more orderly = tt
-orderly-front low (frame ∷ frames) more orderly =
-    (orderly.0, orderly.1, orderly-front (frame.number + 1) frames more orderly.2)
-
 -- before a frame that follows in order, a credit has room for what that moves
 pub have-room : (frames : List Frame) (frame : Frame) → AllByRecursion MovesLittle frames
     → IsOrderly (frames ++ frame ∷ []) → HasRoomLeft (state_after frames)
@@ -278,9 +278,28 @@ have-room frames frame little orderly =
     let bounded : IsBounded (2 ^ 60) (state_after frames) =
     wider (2 ^ 32 + 2 ^ 32 * length frames) (2 ^ 60) (state_after frames)
     (omega (arith, length-append frames (frame ∷ [])))
-    (bounded-after (2 ^ 32) 0 pass_start frames (orderly-front 0 frames (frame ∷ []) orderly) little bounded-start) in
+    (bounded-after (2 ^ 32) 0 pass_start frames (orderly-upto 0 frames (frame ∷ []) orderly) little bounded-start) in
     record {
       connection = (bounded.connection Client, bounded.connection Server);
       client = bounded.window Client;
       server = bounded.window Server;
     }
+
+-- ---- the machine
+
+pub found-room : {frames : List Frame} {machine : FoundPass} (frame : Frame) → IsFoundAfter frames machine
+    → machine.has_stopped ≡ false → IsOrderly (frames ++ frame ∷ []) → HasRoomKept machine.pass
+found-room {frames} frame h on orderly =
+    let goes_on = h.goes_on on in
+    let whole : frames ≡ h.met = h.parts ∙ ap (λ l. h.met ++ l) goes_on.0 ∙ append-nil h.met in
+    record {
+      state = state_after h.met;
+      connection = goes_on.1.connection;
+      streams = goes_on.1.streams;
+      room = have-room h.met frame h.little (subst (λ l. IsOrderly (l ++ frame ∷ [])) whole orderly);
+    }
+
+pub connection-kept : {machine : QuietPass} → HasRoomKept machine
+    → HaveRoom (2 ^ 60) machine.connection.state.credit
+connection-kept kept =
+    subst (λ (now : ConnectionState). HaveRoom (2 ^ 60) now.credit) (sym kept.connection) kept.room.connection

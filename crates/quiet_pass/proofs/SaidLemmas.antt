@@ -17,7 +17,7 @@ use Rattle.quiet_pass.proofs.AlikeLemmas.{alike-parts, alike-shown, same-order}
 use Rattle.quiet_pass.proofs.ChangeLemmas.{none-both}
 use Rattle.quiet_pass.proofs.PassLemmas.{last-if, named-first, plain-brought, unopened}
 use Rattle.quiet_pass.proofs.StreamLemmas.{step-past, streams-put}
-use Rattle.quiet_pass.specs.code.Connection.{as_item, connection_of}
+use Rattle.quiet_pass.specs.code.Connection.{as_item}
 use Rattle.quiet_pass.specs.code.QuietPass.{AreNamed, BringsNothing, StandsFor}
 use Rattle.quiet_pass.specs.code.SaidFrames.{HaveOwn, IsConnectionKept, IsConnectionSaid, IsEntrySaid, IsKeptAfter}
 use Rattle.quiet_pass.specs.code.SaidFrames.{IsSaidStep}
@@ -114,14 +114,14 @@ pub spoken-alone : {machine : QuietPass} {frame : Frame} {opens : Bool} {change 
     {before mid after : List Finding} {last : LastFrame} {now connection : ConnectionState}
     → last ≡ side_of frame.side machine.last
     → ((previous : Option Frame) → last ≡ last_of previous → mid ≡ before ++ local_said previous frame)
-    → now ≡ connection_of machine.connection → after ≡ mid ++ connection_said now (as_item frame opens change)
+    → now ≡ machine.connection.state → after ≡ mid ++ connection_said now (as_item frame opens change)
     → connection ≡ connection_after now (as_item frame opens change)
     → IsConnectionSaid machine frame opens change before after connection
 spoken-alone {machine} {frame} {opens} {change} {before} {mid} last-is local now-is is next-is = record {
   said = λ previous e.
       is
       ∙ ap (λ (now : ConnectionState). mid ++ connection_said now (as_item frame opens change)) now-is
-      ∙ ap (λ l. l ++ connection_said (connection_of machine.connection) (as_item frame opens change))
+      ∙ ap (λ l. l ++ connection_said machine.connection.state (as_item frame opens change))
       (local previous (last-is ∙ e));
   next = next-is ∙ ap (λ (now : ConnectionState). connection_after now (as_item frame opens change)) now-is;
 }

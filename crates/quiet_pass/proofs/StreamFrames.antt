@@ -1,5 +1,5 @@
 -- A frame that moves no stream but by a change.
-use Rattle.stream_credit.proofs.Words.{or_parts, ◌≡◌, ℕ, Bool, true, false, List, [], Some, None, Option}
+use Rattle.stream_credit.proofs.Words.{or_parts, ◌≡◌, ℕ, false, List, [], Some, None, Option}
 use Rattle.stream_credit.proofs.Words.{refl, sym, ◌∙◌, arith, and-false, or-false, ◌||◌, cases_Bool, inl, inr}
 use Rattle.stream_credit.proofs.Words.{Side, Client, Server, Sides, Body, WindowUpdate, Frame, Change, Step, Stream}
 use Rattle.stream_credit.proofs.Words.{is_reset, increment, ends_window, content_by, grant_to, frame_said, is_last_of}

@@ -2,7 +2,7 @@
 
 ghost use Rattle.std.specs.Prelude.{IfOk, IfSome, IsTrue, List};
 ghost use Rattle.audit_terms.specs.declared.frames.Frame.{Frame as FrameTerm};
-ghost use Rattle.h2_frames.specs.code.Walk.{IsReadyWalk};
+ghost use Rattle.h2_frames.specs.code.Walk.{IsFreshWalk};
 ghost use Rattle.quiet_pass.specs.code.FoundConnections.{AreAllFrames, IsFoundFrom, IsFoundOf};
 ghost use Rattle.quiet_pass.specs.code.FoundPass.{IsFoundAfter};
 ghost use Rattle.tcp_streams.specs.code.Orderly.{AreFlowsOfOne};
@@ -54,7 +54,7 @@ pub(crate) fn found_frame_by_frame(
     most_frames: usize,
     walk: FrameWalk<'_>,
 ) -> Result<Option<FoundConnection>, AllocError>
-    requires { IsReadyWalk walk }
+    requires { (client server : Flow) × IsFreshWalk client server walk }
     ensures { IsFoundFrom walk.entry result }
 {
     let mut walk = walk;

@@ -5,9 +5,10 @@ ghost use Rattle.std.specs.Bool.{OnTrue};
 ghost use Rattle.audit_terms.specs.declared.frames.Frame.{Frame as FrameTerm};
 ghost use Rattle.audit_terms.specs.code.runs.Orderly.{IsInRange, IsOrderly};
 ghost use Rattle.quiet_pass.specs.code.FoundPass.{HasSaid, IsAdded, IsFoundAfter};
-ghost use Rattle.quiet_pass.specs.code.QuietPass.{BringsNothing, MovesNoStream};
+ghost use Rattle.quiet_pass.specs.code.QuietPass.{BringsNothing, HasRoomKept, MovesLittle, MovesNoStream};
 
 use crate::passes::{QuietPass, is_of_settings};
+use crate::quiet_frames::moves_little;
 use crate::said_frames::has_stop;
 use audit_terms::{Finding, Frame};
 use std::alloc::{AllocError, Global};
@@ -39,13 +40,15 @@ impl FoundPass {
 
     /// Meets the next frame, and returns false where it gives up: then it stands for nothing any more.
     pub(crate) fn meet(&mut self, alloc: Global, frame: &Frame) -> Result<bool, AllocError>
-        requires { IsInRange frame.now }
+        requires { (frames : List FrameTerm) × IsFoundAfter frames self.old
+            × IsOrderly (frames ++ frame.now ∷ []) }
         ensures { IfOk result (λ met. OnTrue met ((frames : List FrameTerm) → IsFoundAfter frames self.old
             → IsOrderly (frames ++ frame.now ∷ []) → IsFoundAfter (frames ++ frame.now ∷ []) self.new)) }
     {
         if self.has_stopped {
             return Ok(true);
         }
+        moves_little(frame);
         if is_of_settings(frame) {
             return self.meet_settings(alloc, frame);
         }
@@ -61,7 +64,9 @@ impl FoundPass {
     #[inline(never)]
     fn meet_settings(&mut self, alloc: Global, frame: &Frame) -> Result<bool, AllocError>
         requires range { IsInRange frame.now }
+        requires little { MovesLittle frame.now }
         requires unmoved { MovesNoStream frame.now }
+        requires room { HasRoomKept self.old.pass }
         requires on { self.old.has_stopped ≡ false }
         ensures { IfOk result (λ met. OnTrue met ((frames : List FrameTerm) → IsFoundAfter frames self.old
             → IsOrderly (frames ++ frame.now ∷ []) → IsFoundAfter (frames ++ frame.now ∷ []) self.new)) }
@@ -89,6 +94,7 @@ impl FoundPass {
     fn say(&mut self, alloc: Global, frame: &Frame) -> Result<bool, AllocError>
         requires range { IsInRange frame.now }
         requires plain { BringsNothing frame.now }
+        requires room { HasRoomKept self.old.pass }
         ensures { IfOk result (λ met. OnTrue met (HasSaid frame.now self.old self.new)) }
     {
         match self.pass.say(alloc, frame)? {

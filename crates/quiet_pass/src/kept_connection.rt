@@ -1,82 +1,32 @@
 //! The connection between two frames. A frame is met quietly if the window that it moves has credit before it and
 //! after it.
 
-ghost use Rattle.std.specs.Prelude.{◌≡◌, ◌^◌, false, Option};
+ghost use Rattle.std.specs.Prelude.{◌≡◌, false, Option};
 ghost use Rattle.std.specs.Bool.{OnTrue, OnFalse};
 ghost use Rattle.std.specs.Option.{ForSome};
 ghost use Rattle.audit_terms.specs.Frame.{is_server_promise};
 ghost use Rattle.audit_terms.specs.Connection.{connection_start};
-ghost use Rattle.audit_terms.specs.code.Room.{HaveRoom};
-ghost use Rattle.quiet_pass.specs.code.Connection.{connection_of, AreCreditsAfter, IsConnectionAfter};
+ghost use Rattle.quiet_pass.specs.code.Connection.{AreCreditsAfter, IsConnectionAfter};
 ghost use Rattle.quiet_pass.specs.code.Connection.{IsCountedCredit, IsCreditAfter, IsLoneCredit, IsOpenedAfter};
 ghost use Rattle.quiet_pass.specs.code.Connection.{IsPromisedAfter, LeavesCredit};
 
-use audit_terms::standings::balance;
-use audit_terms::{
-    Change, ConnectionState, FIRST_LIMIT, FIRST_WINDOW, Frame, LARGEST_WINDOW, Side, Sides,
-    limit_after, new_limit, new_push,
-};
+use audit_terms::standings::{balance, kept};
+use audit_terms::{Change, ConnectionState, Frame, Side, Sides, limit_after, new_limit, new_push};
 
 /// The connection between two frames (RFC 9113, 4.2, 5.1.1, 6.9).
 #[derive(Clone, Copy)]
 pub(crate) struct KeptConnection {
-    /// The credit in bytes of each side's connection window.
-    pub(crate) credit: Sides<i32>,
-    /// The greatest stream that the client opened so far, or 0.
-    opened: u32,
-    /// The greatest even stream that the server promised so far, or 0.
-    promised: u32,
-    /// ENABLE_PUSH of the client, in force for the server (6.5.2).
-    push: u32,
-    /// The greatest length in bytes of a frame that each side may send.
-    limit: Sides<u32>,
+    pub(crate) state: ConnectionState,
 }
 
 impl KeptConnection {
     /// The connection before any frame.
     pub(crate) fn start() -> Self
-        ensures { connection_of result ≡ connection_start }
+        ensures { result.state ≡ connection_start }
     {
         KeptConnection {
-            credit: Sides::both(FIRST_WINDOW as i32),
-            opened: 0,
-            promised: 0,
-            push: 1,
-            limit: Sides::both(FIRST_LIMIT),
+            state: ConnectionState::start(),
         }
-    }
-
-    /// The connection that is kept so.
-    pub(crate) fn state(&self) -> ConnectionState
-        ensures state { result ≡ connection_of self.now }
-        ensures room { HaveRoom (2 ^ 60) result.credit }
-    {
-        ConnectionState {
-            credit: Sides {
-                client: i64::from(self.credit.client),
-                server: i64::from(self.credit.server),
-            },
-            opened: self.opened,
-            promised: self.promised,
-            push: self.push,
-            limit: self.limit,
-        }
-    }
-
-    /// How a connection is kept, if both credits are in range: those of a capture are.
-    pub(crate) fn of(state: &ConnectionState) -> Option<Self>
-        ensures { ForSome result (λ now. connection_of now ≡ state.now) }
-    {
-        Some(KeptConnection {
-            credit: Sides {
-                client: kept_credit(state.credit.client)?,
-                server: kept_credit(state.credit.server)?,
-            },
-            opened: state.opened,
-            promised: state.promised,
-            push: state.push,
-            limit: state.limit,
-        })
     }
 
     /// Meets a frame, which opens its stream or not and may bring a change, and returns false if that may show
@@ -85,7 +35,7 @@ impl KeptConnection {
         ensures quiet { OnTrue result (IsConnectionAfter frame.now opens change.now self.old self.new) }
         ensures left { OnFalse result (self.new ≡ self.old) }
     {
-        let longest = new_limit(change, frame.side, self.limit.of(frame.side));
+        let longest = new_limit(change, frame.side, self.state.limit.of(frame.side));
         if longest < frame.length.get() {
             return false;
         }
@@ -96,22 +46,24 @@ impl KeptConnection {
         ) else {
             return false;
         };
-        self.credit = credit;
-        self.opened = opened;
-        self.promised = promised;
-        self.push = new_push(change, self.push);
-        self.limit = limit_after(change, &self.limit);
+        self.state = ConnectionState {
+            credit,
+            opened,
+            promised,
+            push: new_push(change, self.state.push),
+            limit: limit_after(change, &self.state.limit),
+        };
         true
     }
 
     /// The credits of both sides after a frame that opens no stream, promises none and brings no change, as most do, if
     /// that shows nothing.
     #[inline(always)]
-    pub(crate) fn credit_after_lone(&self, frame: &Frame) -> Option<Sides<i32>>
+    pub(crate) fn credit_after_lone(&self, frame: &Frame) -> Option<Sides<i64>>
         requires { is_server_promise frame.now ≡ false }
         ensures { ForSome result (IsLoneCredit frame.now self.now) }
     {
-        if self.limit.of(frame.side) < frame.length.get() {
+        if self.state.limit.of(frame.side) < frame.length.get() {
             return None;
         }
         self.credits_after(frame)
@@ -127,32 +79,32 @@ impl KeptConnection {
         let Some(credit) = self.credit_after_lone(frame) else {
             return false;
         };
-        self.credit = credit;
+        self.state.credit = credit;
         true
     }
 
     /// The credits of both sides after a frame, if that shows nothing but credits.
     #[inline(always)]
-    fn credits_after(&self, frame: &Frame) -> Option<Sides<i32>>
-        ensures { ForSome result (AreCreditsAfter frame.now self.now.credit) }
+    fn credits_after(&self, frame: &Frame) -> Option<Sides<i64>>
+        ensures { ForSome result (AreCreditsAfter frame.now self.now.state.credit) }
     {
         let Some(side) = moved_side(frame) else {
-            return Some(self.credit);
+            return Some(self.state.credit);
         };
-        let moved = credit_after(self.credit.of(side), side, frame)?;
-        let mut credit = self.credit;
+        let moved = credit_after(self.state.credit.of(side), side, frame)?;
+        let mut credit = self.state.credit;
         *credit.of_mut(side) = moved;
         Some(credit)
     }
 
     /// The greatest stream that the client opened, after a frame, if that is in order (5.1.1).
     fn opened_after(&self, frame: &Frame, opens: bool) -> Option<u32>
-        ensures { ForSome result (IsOpenedAfter frame.now opens self.now.opened) }
+        ensures { ForSome result (IsOpenedAfter frame.now opens self.now.state.opened) }
     {
         if !(opens && frame.body.is_headers()) {
-            return Some(self.opened);
+            return Some(self.state.opened);
         }
-        if frame.stream <= self.opened {
+        if frame.stream <= self.state.opened {
             return None;
         }
         Some(frame.stream)
@@ -160,13 +112,13 @@ impl KeptConnection {
 
     /// The greatest even stream that the server promised, after a frame, if that is in order and allowed (5.1.1, 8.4).
     fn promised_after(&self, frame: &Frame) -> Option<u32>
-        ensures { ForSome result (IsPromisedAfter frame.now self.now.push self.now.promised) }
+        ensures { ForSome result (IsPromisedAfter frame.now self.now.state.push self.now.state.promised) }
     {
         if !frame.is_server_promise() {
-            return Some(self.promised);
+            return Some(self.state.promised);
         }
         let promised = frame.body.promised();
-        if self.push == 0 || promised % 2 == 1 || promised <= self.promised {
+        if self.state.push == 0 || promised % 2 == 1 || promised <= self.state.promised {
             return None;
         }
         Some(promised)
@@ -188,36 +140,20 @@ fn moved_side(frame: &Frame) -> Option<Side>
     None
 }
 
-/// A credit in 32 bits, if it is in range.
-fn kept_credit(credit: i64) -> Option<i32>
-    ensures { ForSome result (λ kept. kept ≡ credit) }
-{
-    if credit < i64::from(i32::MIN) || credit > i64::from(LARGEST_WINDOW) {
-        return None;
-    }
-    Some(credit as i32)
-}
-
 /// A credit after a frame, if some is left before and after it, and no more than the largest window (6.9.1).
-fn balance_after(credit: i32, side: Side, frame: &Frame) -> Option<i32>
+fn balance_after(credit: i64, side: Side, frame: &Frame) -> Option<i64>
     ensures { ForSome result (IsCountedCredit side frame.now credit) }
 {
-    if credit <= 0 {
-        return None;
-    }
-    let after = balance(
-        credit as u32,
-        frame.grant_to(side, 0),
-        frame.content_by(side),
-    )?;
+    let before = kept(credit)?;
+    let after = balance(before, frame.grant_to(side, 0), frame.content_by(side))?;
     if after == 0 {
         return None;
     }
-    Some(after as i32)
+    Some(i64::from(after))
 }
 
 /// A credit after a frame, if that shows nothing but credit (6.9, 6.9.1).
-fn credit_after(credit: i32, side: Side, frame: &Frame) -> Option<i32>
+fn credit_after(credit: i64, side: Side, frame: &Frame) -> Option<i64>
     ensures { ForSome result (IsCreditAfter side frame.now credit) }
 {
     if frame.grants_nothing(side, 0) {

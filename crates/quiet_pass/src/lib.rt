@@ -12,8 +12,8 @@
 //!   the frame shows, and puts them back, whatever credit is left, and whether or not the streams are opened. So it
 //!   does with all streams at a change of the initial windows. Past a connection error nothing more is met, only
 //!   counted. `found_connection` gives up past the number of frames that a caller allows, and `quiet_connection` at the
-//!   first finding. Both also would at credits below -2^31, for which no capture has the bytes, and at streams opened
-//!   out of order, before which the audit of a capture stops.
+//!   first finding. Both also would at credits of streams below -2^31, for which no capture has the bytes, and at
+//!   streams opened out of order, before which the audit of a capture stops.
 //! - [`ConnectionFindings`] does this while segments come: the machine visits the frames that `h2_frames` hands on, and
 //!   keeps of a connection what it and that stage keep. At the end it answers what `found_connection` does of the flows
 //!   that these segments have, with its contract (`IsFoundOf`), and where the flows end. It is a
@@ -38,7 +38,8 @@
 //! - One rule updates a row for frames of all types, ends and resets too. While rows are shifted, `fault_rules` says
 //!   what frames on streams show, quiet ones too.
 //! - Frames take no memory, but for a new stream, SETTINGS and what is shown. No sum wraps, and nothing is asked of the
-//!   caller: credits are kept in 32 bits, and each sum is made in 64.
+//!   caller: credits are counted in 64 bits, and as frames are in order there are fewer than 2^28, of which each moves a
+//!   credit by 2^32 at most (`MovesLittle`, `HasRoomLeft`).
 //! - Refused by the prover: content of a reset stream that the connection does not count (5.1); exchanged tails; an
 //!   audit that stops only if all findings of a frame end it; frames on a stalled stream that show nothing; a promise
 //!   that shows nothing of the promised stream; a change that leaves the promised streams as they are; a first frame

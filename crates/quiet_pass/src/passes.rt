@@ -92,7 +92,7 @@ impl QuietPass {
         };
         match self.streams.meet(frame) {
             Meeting::Quiet => {
-                self.connection.credit = credit;
+                self.connection.state.credit = credit;
                 Ok(true)
             }
             Meeting::WithoutRow => self.meet_opening(frame),

@@ -1,11 +1,10 @@
 //! Quiet connections: their frames are met as they are read, and no list of them is made.
 
 ghost use Rattle.std.specs.Prelude.{IfOk, IfSome};
-ghost use Rattle.audit_terms.specs.code.runs.Orderly.{IsOrderly};
-ghost use Rattle.h2_frames.specs.code.Batch.{HasTaken, IsNumbered, frames_of};
+ghost use Rattle.h2_frames.specs.code.Batch.{HasTaken, IsNumbered};
 ghost use Rattle.h2_frames.specs.code.Walk.{IsFreshWalk, IsReadyWalk};
 ghost use Rattle.quiet_pass.specs.code.FoundConnections.{IsFoundFrom, IsFoundOf};
-ghost use Rattle.quiet_pass.specs.code.QuietConnections.{HasMet, IsQuietOf};
+ghost use Rattle.quiet_pass.specs.code.QuietConnections.{HasMet, IsFoundBefore, IsQuietOf};
 ghost use Rattle.tcp_streams.specs.code.Orderly.{AreFlowsOfOne};
 ghost use Rattle.tcp_streams.specs.declared.flows.Flow.{Flow};
 
@@ -104,7 +103,7 @@ fn meet_and_take<R: Threads>(
 ) -> (Result<bool, AllocError>, Result<bool, AllocError>)
     requires ready { IsReadyWalk walk.old }
     requires numbered { IsNumbered batch.now }
-    requires orderly { IsOrderly (frames_of batch.now) }
+    requires found { IsFoundBefore batch.now pass.old }
     ensures met { IfOk result.0 (HasMet batch.now pass.old pass.new) }
     ensures taken { IfOk result.1 (HasTaken walk.old walk.new next.new) }
 {
@@ -117,7 +116,7 @@ fn meet_and_take<R: Threads>(
 // 189, since cache lines went back and forth.
 fn meet_batch(pass: &mut FoundPass, batch: &FrameBatch) -> Result<bool, AllocError>
     requires numbered { IsNumbered batch.now }
-    requires orderly { IsOrderly (frames_of batch.now) }
+    requires found { IsFoundBefore batch.now pass.old }
     ensures { IfOk result (HasMet batch.now pass.old pass.new) }
 {
     let mut own = mem::replace(pass, FoundPass::begin(batch.alloc()));
@@ -129,7 +128,7 @@ fn meet_batch(pass: &mut FoundPass, batch: &FrameBatch) -> Result<bool, AllocErr
 /// Meets the frames of a batch one after the other.
 fn meet_each(pass: &mut FoundPass, batch: &FrameBatch) -> Result<bool, AllocError>
     requires numbered { IsNumbered batch.now }
-    requires orderly { IsOrderly (frames_of batch.now) }
+    requires found { IsFoundBefore batch.now pass.old }
     ensures { IfOk result (HasMet batch.now pass.old pass.new) }
 {
     let alloc = batch.alloc();

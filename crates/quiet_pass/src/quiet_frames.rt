@@ -5,6 +5,7 @@ ghost use Rattle.std.specs.Bool.{OnTrue};
 ghost use Rattle.audit_terms.specs.declared.frames.Frame.{Frame as FrameTerm};
 ghost use Rattle.audit_terms.specs.LocalFault.{body_said, local_said};
 ghost use Rattle.audit_terms.specs.code.LastFrame.{last_of};
+ghost use Rattle.quiet_pass.specs.code.QuietPass.{MovesLittle};
 
 use audit_terms::frame_types::PUSH_PROMISE;
 use audit_terms::{Body, Frame, LastFrame, Side};
@@ -33,5 +34,17 @@ fn is_readable(frame: &Frame) -> bool
         Body::Unreadable(_, _) => false,
         Body::Settings(settings) => settings.bad().is_none(),
         _ => true,
+    }
+}
+
+/// What a frame grants, and the initial window that its settings say, are of 32 bits.
+// Its callers learn this by a call, since it follows from types alone.
+#[inline(always)]
+pub(crate) fn moves_little(frame: &Frame)
+    ensures { MovesLittle frame.now }
+{
+    let _grant = frame.body.increment();
+    if let Body::Settings(settings) = frame.body {
+        let _initial = settings.settings().initial;
     }
 }

@@ -4,15 +4,14 @@ ghost use Rattle.std.specs.Prelude.{◌≡◌, ◌<◌, ◌^◌, false, IfOk, On
 ghost use Rattle.std.specs.Bool.{OnTrue};
 ghost use Rattle.std.specs.List.{list_any};
 ghost use Rattle.std.specs.Option.{ForSome};
-ghost use Rattle.audit_terms.specs.code.Room.{WindowHasRoom};
+ghost use Rattle.audit_terms.specs.code.Room.{HaveRoom, WindowHasRoom};
 ghost use Rattle.audit_terms.specs.code.runs.Orderly.{IsInRange};
 ghost use Rattle.audit_terms.specs.Finding.{in_order, shown, stops};
 ghost use Rattle.audit_terms.specs.Pass.{PassState};
-ghost use Rattle.quiet_pass.specs.code.QuietPass.{BringsNothing, StandsFor};
+ghost use Rattle.quiet_pass.specs.code.QuietPass.{BringsNothing, HasRoomKept, StandsFor};
 ghost use Rattle.quiet_pass.specs.code.SaidFrames.{IsConnectionKept, IsConnectionSaid, IsEntrySaid, IsKeptAfter};
 ghost use Rattle.quiet_pass.specs.code.SaidFrames.{IsSaidStep};
 
-use crate::kept_connection::KeptConnection;
 use crate::passes::{QuietPass, keep_last};
 use audit_terms::{
     Change, ConnectionState, Finding, Frame, Item, Step, Stream, keep_shown, put_in_order,
@@ -31,6 +30,7 @@ impl QuietPass {
     ) -> Result<Option<Vec<Finding>>, AllocError>
         requires range { IsInRange frame.now }
         requires plain { BringsNothing frame.now }
+        requires room { HasRoomKept self.old }
         ensures { IfOk result (λ said. ForSome said (λ found. (state : PassState) → StandsFor self.old state
             → IsSaidStep state frame.now found.items self.new)) }
     {
@@ -59,11 +59,12 @@ impl QuietPass {
         opens: bool,
         change: &Option<Change>,
     ) -> Result<ConnectionState, AllocError>
-        requires { IsInRange frame.now }
+        requires range { IsInRange frame.now }
+        requires room { HaveRoom (2 ^ 60) self.now.connection.state.credit }
         ensures { IfOk result (IsConnectionSaid self.now frame.now opens change.now found.old.items found.new.items) }
     {
         say_local_after(found, self.last.of(frame.side), frame)?;
-        let mut connection = self.connection.state();
+        let mut connection = self.connection.state;
         let item = Item {
             frame: *frame,
             opens,
@@ -101,21 +102,17 @@ impl QuietPass {
         Ok(())
     }
 
-    /// Keeps the connection as it is after a frame; returns false if it cannot be kept.
-    pub(crate) fn keep_connection(&mut self, frame: &Frame, connection: &ConnectionState) -> bool
-        ensures kept { OnTrue result (IsConnectionKept frame.now connection.now self.old self.new) }
+    /// Keeps the connection as it is after a frame.
+    pub(crate) fn keep_connection(&mut self, frame: &Frame, connection: &ConnectionState)
+        ensures kept { IsConnectionKept frame.now connection.now self.old self.new }
         ensures streams { self.new.streams ≡ self.old.streams }
     {
-        let Some(connection) = KeptConnection::of(connection) else {
-            return false;
-        };
-        self.connection = connection;
+        self.connection.state = *connection;
         keep_last(&mut self.last, frame);
-        true
     }
 
     /// Keeps the connection, the frame's stream and the one that it promises as they are after the frame; returns false
-    /// if they cannot be kept.
+    /// if the streams cannot be kept.
     fn keep_after(
         &mut self,
         frame: &Frame,
@@ -126,7 +123,8 @@ impl QuietPass {
         ensures { IfOk result (λ kept. OnTrue kept
             (IsKeptAfter frame.now connection.now own.now promised.now self.old self.new)) }
     {
-        if !self.keep_connection(frame, connection) || !self.streams.put(frame.stream, own)? {
+        self.keep_connection(frame, connection);
+        if !self.streams.put(frame.stream, own)? {
             return Ok(false);
         }
         self.streams.put(frame.promised_by(), promised)

@@ -7,7 +7,8 @@ ghost use Rattle.audit_terms.specs.code.runs.Orderly.{IsInRange};
 ghost use Rattle.audit_terms.specs.Pass.{PassState};
 ghost use Rattle.audit_terms.specs.Frame.{is_server_promise};
 ghost use Rattle.quiet_pass.specs.code.Connection.{IsConnectionAfter};
-ghost use Rattle.quiet_pass.specs.code.QuietPass.{HasBrought, IsQuietStep, MovesNoStream, StandsFor};
+ghost use Rattle.quiet_pass.specs.code.QuietPass.{HasBrought, HasRoomKept, IsQuietStep, MovesNoStream};
+ghost use Rattle.quiet_pass.specs.code.QuietPass.{StandsFor};
 ghost use Rattle.audit_terms.specs.code.runs.Streams.{initial_after};
 ghost use Rattle.quiet_pass.specs.code.SaidFrames.{HasCountedMoves, IsBroughtSaying, IsSaidStep};
 ghost use Rattle.quiet_pass.specs.declared.passes.QuietPass.{QuietPass as PassTerm};
@@ -71,6 +72,7 @@ impl QuietPass {
     ) -> Result<Option<Vec<Finding>>, AllocError>
         requires range { IsInRange frame.now }
         requires unmoved { MovesNoStream frame.now }
+        requires room { HasRoomKept self.old }
         ensures { IfOk result (λ said. ForSome said (λ found. (before : PassTerm)
             → HasBrought frame.now change.now before self.old → (state : PassState) → StandsFor before state
             → IsSaidStep state frame.now found.items self.new)) }
@@ -84,9 +86,10 @@ impl QuietPass {
         if shows_stop(&mut found)? {
             return Ok(Some(found));
         }
-        if !are_kept || !self.keep_connection(frame, &connection) {
+        if !are_kept {
             return Ok(None);
         }
+        self.keep_connection(frame, &connection);
         Ok(Some(found))
     }
 

@@ -6,7 +6,6 @@ use Rattle.audit_terms.specs.declared.sides.Sides.{Sides}
 use Rattle.audit_terms.specs.declared.frames.Frame.{Frame}
 use Rattle.audit_terms.specs.declared.items.Change.{Change}
 use Rattle.audit_terms.specs.declared.items.Item.{Item}
-use Rattle.audit_terms.specs.declared.connection_state.ConnectionState.{ConnectionState}
 use Rattle.audit_terms.specs.Frame.{promised_in, content_by, grant_to, grants_nothing}
 use Rattle.audit_terms.specs.Connection.{connection_said, connection_after, connection_window_said, credit_after}
 use Rattle.audit_terms.specs.Connection.{is_opened_by_headers, is_even_promise, opening_order_said}
@@ -15,16 +14,6 @@ use Rattle.audit_terms.specs.Window.{is_used_up, largest_window}
 use Rattle.quiet_pass.specs.declared.kept_connection.KeptConnection.{KeptConnection}
 use Rattle.stream_credit.specs.code.Standings.{AreQuiet}
 
--- the connection that is kept so
-abbrev pub connection_of : KeptConnection → ConnectionState
-connection_of now = record {
-  credit = record { client = now.credit.client; server = now.credit.server };
-  opened = now.opened;
-  promised = now.promised;
-  push = now.push;
-  limit = now.limit;
-}
-
 -- a frame with what the connection meets beside it
 abbrev pub as_item : Frame → (opens : Bool) → Option Change → Item
 as_item frame opens change = record { frame = frame; opens = opens; change = change }
@@ -32,12 +21,13 @@ as_item frame opens change = record { frame = frame; opens = opens; change = cha
 -- the connection after a frame: nothing of that is shown
 pub record IsConnectionAfter (frame : Frame) (opens : Bool) (change : Option Change)
     (old new : KeptConnection) : Type 0 where
-  pub said : AreQuiet (connection_said (connection_of old) (as_item frame opens change))
-  pub after : connection_of new ≡ connection_after (connection_of old) (as_item frame opens change)
+  pub said : AreQuiet (connection_said old.state (as_item frame opens change))
+  pub after : new.state ≡ connection_after old.state (as_item frame opens change)
 
 -- these are the credits after a frame that moves nothing else of the connection: nothing of that is shown
 abbrev pub IsLoneCredit : Frame → KeptConnection → Sides ℤ → Type 0
-IsLoneCredit frame old credit = IsConnectionAfter frame false None old (record old { credit = credit })
+IsLoneCredit frame old credit =
+    IsConnectionAfter frame false None old (record { state = record old.state { credit = credit } })
 
 -- a credit after a frame, where some is left before and after it, and no more than the largest
 pub record IsCountedCredit (d : Side) (frame : Frame) (before after : ℤ) : Type 0 where

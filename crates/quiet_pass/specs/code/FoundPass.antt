@@ -12,7 +12,7 @@ use Rattle.audit_terms.specs.declared.frames.Frame.{Frame}
 use Rattle.h2_frames.specs.code.Walk.{IsWalkAfter}
 use Rattle.h2_frames.specs.declared.walk.FrameWalk.{FrameWalk}
 use Rattle.tcp_streams.specs.declared.flows.Flow.{Flow}
-use Rattle.quiet_pass.specs.code.QuietPass.{AreNamed, StandsFor}
+use Rattle.quiet_pass.specs.code.QuietPass.{AreNamed, MovesLittle, StandsFor}
 use Rattle.quiet_pass.specs.code.FoundConnections.{IsNamedAlike}
 use Rattle.quiet_pass.specs.code.SaidFrames.{IsSaidStep}
 use Rattle.quiet_pass.specs.declared.found_passes.FoundPass.{FoundPass}
@@ -44,6 +44,7 @@ pub record IsFoundAfter (frames : List Frame) (machine : FoundPass) : Type 0 whe
   pub met : List Frame
   pub rest : List Frame
   pub parts : frames ≡ met ++ rest
+  pub little : AllByRecursion MovesLittle met
   pub shown : (streams : List ℕ) → HaveAllMet met streams
       → shown false (full_from streams pass_start met) ≡ machine.found.items
   pub goes_on : machine.has_stopped ≡ false → (rest ≡ []) × StandsFor machine.pass (state_after met)

@@ -23,6 +23,11 @@ pub record IsQuietOf (client server : Flow) (quiet : QuietConnection) : Type 0 w
   pub count : quiet.frames ≡ length frames
   pub silent : shown false (pass frames) ≡ []
 
+-- what was found is of frames that those of a batch follow in order
+abbrev pub IsFoundBefore : FrameBatch → FoundPass → Type 0
+IsFoundBefore batch machine =
+    (frames : List Frame) × IsFoundAfter frames machine × runs.IsOrderly (frames ++ frames_of batch)
+
 -- the frames of a batch were met after others
 abbrev pub HasMet : FrameBatch → (old new : FoundPass) → (met : Bool) → Type 0
 HasMet batch old new met =

@@ -16,7 +16,7 @@ use Rattle.quiet_pass.specs.declared.passes.QuietPass.{QuietPass}
 use Rattle.stream_credit.specs.code.Standings.{AreQuiet}
 use Rattle.audit_terms.specs.code.LastFrame.{last_of}
 use Rattle.settings_pair.specs.code.Pending.{IsPending, IsBrought}
-use Rattle.quiet_pass.specs.code.Connection.{connection_of, IsConnectionAfter}
+use Rattle.quiet_pass.specs.code.Connection.{IsConnectionAfter}
 use Rattle.quiet_pass.specs.code.Streams.{AreStreams, AreMet}
 
 -- the machine stands for a state of the pass
@@ -25,7 +25,7 @@ pub record StandsFor (machine : QuietPass) (state : PassState) : Type 0 where
   pub server : machine.last.server ≡ last_of state.previous.server
   pub pending : IsPending state.in_force machine.pending
   pub initial : machine.initial ≡ state.in_force.initial
-  pub connection : connection_of machine.connection ≡ state.connection
+  pub connection : machine.connection.state ≡ state.connection
   pub streams : AreStreams state.streams machine.streams
 
 -- the initial window that settings say, if they do, is of 32 bits
@@ -42,6 +42,13 @@ pub record HasRoomLeft (state : PassState) : Type 0 where
   pub connection : HaveRoom (2 ^ 60) state.connection.credit
   pub client : (stream : ℕ) → WindowHasRoom (2 ^ 60) (state.streams stream).window.client
   pub server : (stream : ℕ) → WindowHasRoom (2 ^ 60) (state.streams stream).window.server
+
+-- the machine keeps the connection and the streams of a state whose credits have room
+pub record HasRoomKept (machine : QuietPass) : Type 0 where
+  pub state : PassState
+  pub connection : machine.connection.state ≡ state.connection
+  pub streams : AreStreams state.streams machine.streams
+  pub room : HasRoomLeft state
 
 -- streams other than 0
 abbrev pub AreNamed : List ℕ → Type 0

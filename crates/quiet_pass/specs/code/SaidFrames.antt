@@ -20,7 +20,7 @@ use Rattle.audit_terms.specs.declared.items.Step.{Step}
 use Rattle.audit_terms.specs.declared.sides.Side.TheVariants.{Client, Server}
 use Rattle.audit_terms.specs.declared.sides.Sides.{Sides}
 use Rattle.audit_terms.specs.declared.stream_state.Stream.{Stream}
-use Rattle.quiet_pass.specs.code.Connection.{as_item, connection_of}
+use Rattle.quiet_pass.specs.code.Connection.{as_item}
 use Rattle.quiet_pass.specs.code.QuietPass.{AreNamed, StandsFor}
 use Rattle.quiet_pass.specs.code.Streams.{ArePut, AreStreams, IsChangeSaid}
 use Rattle.quiet_pass.specs.declared.kept_streams.Streams.{Streams}
@@ -35,8 +35,8 @@ pub record IsConnectionSaid (machine : QuietPass) (frame : Frame) (opens : Bool)
     (before after : List Finding) (connection : ConnectionState) : Type 0 where
   pub said : (previous : Option Frame) → side_of frame.side machine.last ≡ last_of previous → after ≡ (before
       ++ local_said previous frame)
-      ++ connection_said (connection_of machine.connection) (as_item frame opens change)
-  pub next : connection ≡ connection_after (connection_of machine.connection) (as_item frame opens change)
+      ++ connection_said machine.connection.state (as_item frame opens change)
+  pub next : connection ≡ connection_after machine.connection.state (as_item frame opens change)
 
 -- what a frame shows of a stream that meets it was added, and this is the stream after it; stream 0 is none
 pub record IsEntrySaid (stream : ℕ) (initial : Sides ℕ) (frame : Frame) (old new : Stream) (before after : List Finding)
@@ -47,7 +47,7 @@ pub record IsEntrySaid (stream : ℕ) (initial : Sides ℕ) (frame : Frame) (old
 
 -- the machine keeps the connection as it is after the frame, which brings no settings
 pub record IsConnectionKept (frame : Frame) (connection : ConnectionState) (old new : QuietPass) : Type 0 where
-  pub kept : connection_of new.connection ≡ connection
+  pub kept : new.connection.state ≡ connection
   pub client : new.last.client ≡ (if is_side Client frame.side then last_of (Some frame) else old.last.client)
   pub server : new.last.server ≡ (if is_side Server frame.side then last_of (Some frame) else old.last.server)
   pub pending : new.pending ≡ old.pending

@@ -1,6 +1,12 @@
 use Rattle.std.proofs.Common.{[], ◌∷◌, ◌++◌, ◌∙◌}
 use Rattle.quiet_pass.proofs.found_connections.found_frame_by_frame.Goals as goal
 
+pub meet-requires : goal.meet-requires
+meet-requires c =
+    let next = rw c.in-Some.is at c.in_ok-frame.ensures.next in
+    let met = c.loop-pass.invariant.met c.requires.0 c.requires.1 c.requires.2.whole in
+    (met.frames, met.found, (next c.requires.0 c.requires.1 met.frames met.taken).orderly)
+
 pub loop-pass-preserved : goal.loop-pass-preserved
 loop-pass-preserved c = record {
   ready = c.in_ok-frame.ensures.ready;

@@ -1,13 +1,12 @@
 use Rattle.std.proofs.Common.{◌++◌, ◌∙◌}
 use Rattle.h2_frames.specs.code.Batch.{frames_of}
-use Rattle.quiet_pass.proofs.FoundLemmas.{orderly-back}
 use Rattle.quiet_pass.proofs.quiet_connections.found_batch_by_batch.Goals as goal
 
-pub meet_and_take-met-requires-clause-orderly : goal.meet_and_take-met-requires-clause-orderly
-meet_and_take-met-requires-clause-orderly g c =
+pub meet_and_take-met-requires-clause-found : goal.meet_and_take-met-requires-clause-found
+meet_and_take-met-requires-clause-found g c =
     let old = c.loop-more.invariant.met c.requires.0 c.requires.1 c.requires.2.whole in
     let first = rw c.loop-more-test.true at old.taken in
-    orderly-back 0 old.frames (frames_of c.loop-more.batch) first.orderly
+    (old.frames, old.found, first.orderly)
 
 pub loop-more-preserved : goal.loop-more-preserved
 loop-more-preserved g c =

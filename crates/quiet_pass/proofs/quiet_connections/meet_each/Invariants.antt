@@ -8,7 +8,6 @@ use Rattle.quiet_pass.specs.code.FoundPass.{IsFoundAfter}
 abbrev pub invariant-loop-frame : goal.invariant-loop-frame
 invariant-loop-frame l = record {
   ready : IsReadyMerge l.merge;
-  orderly : IsOrderly (left_of l.merge);
   met : (frames : List Frame) → IsFoundAfter frames l.initial.pass → IsOrderly (frames ++ frames_of l.batch)
       → (now : List Frame) × IsFoundAfter now l.pass × (now ++ left_of l.merge ≡ frames ++ frames_of l.batch);
 }

@@ -1,16 +1,31 @@
 use Rattle.stream_credit.proofs.Words.{refl, OnTrue_at}
 use Rattle.std.proofs.lemmas.Bool.{OnFalse_at}
-use Rattle.quiet_pass.proofs.FoundLemmas.{quiet-more, said-after, stays}
+use Rattle.quiet_pass.proofs.FoundLemmas.{orderly-range, quiet-more, said-after, stays}
+use Rattle.quiet_pass.proofs.RoomLemmas.{found-room}
 use Rattle.quiet_pass.proofs.found_passes.FoundPass.meet.Goals as goal
+
+pub meet_settings-requires-clause-range : goal.meet_settings-requires-clause-range
+meet_settings-requires-clause-range c = orderly-range 0 c.requires.0 c.args.frame.now c.requires.2
+
+pub meet_settings-requires-clause-room : goal.meet_settings-requires-clause-room
+meet_settings-requires-clause-room c = found-room c.args.frame.now c.requires.1 c.if-self.false c.requires.2
+
+pub say-requires-clause-range : goal.say-requires-clause-range
+say-requires-clause-range c = orderly-range 0 c.requires.0 c.args.frame.now c.requires.2
+
+pub say-requires-clause-room : goal.say-requires-clause-room
+say-requires-clause-room c =
+    rw (OnFalse_at c.if-is_quiet.false c.in_ok-is_quiet.ensures.left)
+    (found-room c.args.frame.now c.requires.1 c.if-self.false c.requires.2)
 
 pub returns-then-self : goal.returns-then-self
 returns-then-self c = λ frames h orderly. stays c.args.frame.now c.if-self.true h orderly
 
 pub returns-then-is_quiet : goal.returns-then-is_quiet
 returns-then-is_quiet c = λ frames h orderly.
-    quiet-more c.args.frame.now h c.if-self.false orderly
+    quiet-more c.args.frame.now h c.if-self.false c.moves_little.ensures orderly
     (OnTrue_at c.if-is_quiet.true c.in_ok-is_quiet.ensures.quiet _ (h.goes_on c.if-self.false).1) refl refl refl
 
 pub returns : goal.returns
-returns c = said-after c.args.frame.now c.args.self.now _ _ c.say.result c.if-self.false
+returns c = said-after c.args.frame.now c.args.self.now _ _ c.say.result c.if-self.false c.moves_little.ensures
     (OnFalse_at c.if-is_quiet.false c.in_ok-is_quiet.ensures.left) c.say.ensures refl refl

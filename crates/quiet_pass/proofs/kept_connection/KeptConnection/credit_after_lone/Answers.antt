@@ -6,6 +6,6 @@ pub returns : goal.returns
 returns c = λ credit e.
     let frame = c.args.frame.now in
     let old = c.args.self.now in
-    let short : nat_lt (side_of frame.side old.limit) frame.length ≡ false =
+    let short : nat_lt (side_of frame.side old.state.limit) frame.length ≡ false =
     grind (arith, nat_tests, c.if-of-get.false, c.of.ensures, c.get.ensures) in
     lone-met frame old credit c.requires short (c.credits_after.ensures credit e)

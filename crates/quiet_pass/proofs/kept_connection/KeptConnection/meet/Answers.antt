@@ -11,9 +11,9 @@ returns-clause-quiet c =
     let short : nat_lt c.new_limit-longest.result frame.length ≡ false =
     grind (arith, nat_tests, c.if-longest-get.false, c.get.ensures) in
     let here = c.in-Some-Some-Some in
-    connection-met frame c.args.opens change old here.opened here.promised c.new_push-self.result here.credit
-    c.limit_after-self.result (subst (λ n. nat_lt n frame.length ≡ false) longest short)
+    connection-met frame c.args.opens change old here.opened here.promised c.new_push.result here.credit
+    c.limit_after.result (subst (λ n. nat_lt n frame.length ≡ false) longest short)
     (c.opened_after.ensures here.opened here.is-0) (c.promised_after.ensures here.promised here.is-1)
-    (c.credits_after.ensures here.credit here.is-2) c.new_push-self.ensures
-    (ap (λ (both : Sides ℕ). both.client) c.limit_after-self.ensures)
-    (ap (λ (both : Sides ℕ). both.server) c.limit_after-self.ensures)
+    (c.credits_after.ensures here.credit here.is-2) c.new_push.ensures
+    (ap (λ (both : Sides ℕ). both.client) c.limit_after.ensures)
+    (ap (λ (both : Sides ℕ). both.server) c.limit_after.ensures)

@@ -4,7 +4,7 @@ use Rattle.quiet_pass.proofs.passes.QuietPass.keep_after.Goals as goal
 
 pub returns : goal.returns
 returns c =
-    let rest = c.if-not-keep_connection.ensures.kept in
+    let rest = c.keep_connection.ensures.kept in
     IfOk-weaker c.put-2.result _ _
     (λ done h. OnTrue_from done _ (λ e. record {
       rest = record {

@@ -2,8 +2,12 @@ use Rattle.stream_credit.proofs.Words.{◌∙◌, ap, sym, same_Some, Finding}
 use Rattle.std.proofs.Common.{Vec, Global}
 use Rattle.std.specs.List.{list_any}
 use Rattle.audit_terms.specs.Finding.{stops}
+use Rattle.quiet_pass.proofs.RoomLemmas.{connection-kept}
 use Rattle.quiet_pass.proofs.SaidLemmas.{never, said-plain}
 use Rattle.quiet_pass.proofs.passes.QuietPass.say.Goals as goal
+
+pub say_alone-requires-clause-room : goal.say_alone-requires-clause-room
+say_alone-requires-clause-room c = connection-kept c.requires.room
 
 pub returns-then-branch : goal.returns-then-branch
 returns-then-branch c = λ x e.
