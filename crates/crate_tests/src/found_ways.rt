@@ -115,7 +115,7 @@ fn are_same(one: &FoundConnection, other: &FoundConnection) -> bool {
         && name_alike(one.shown_at.as_slice(), other.shown_at.as_slice())
 }
 
-/// Whether a stage tells what the flows do. A stage that gave up never does.
+/// Whether a stage tells what the flows do.
 fn is_told_alike(cut: &FoundCut, found: &Option<FoundConnection>) -> bool {
     match (cut, found) {
         (FoundCut::Http2(one), Some(other)) => are_same(one, other),

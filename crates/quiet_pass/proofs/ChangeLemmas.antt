@@ -11,11 +11,12 @@ use Rattle.stream_credit.proofs.Words.{cases_Bool, cases_eq, eq-eqb, eqb-true, n
 use Rattle.stream_credit.proofs.Words.{AllByRecursion, Change, Finding, Sides, Step, Stream, flat_map, flat_map-append}
 use Rattle.stream_credit.proofs.Words.{idle_stream, initial_after, shown, stream_after, stream_said}
 use Rattle.stream_credit.proofs.Words.{◌+◌, drop, length}
-use Rattle.quiet_pass.proofs.StreamLemmas.{of-rows, rows-of, step-alone, streams-same, unmoved-entry}
+use Rattle.quiet_pass.proofs.RowLists.{each-of, parity-zip}
+use Rattle.quiet_pass.proofs.StreamLemmas.{of-rows, rows-of, step-alone, unmoved-entry}
 use Rattle.quiet_pass.specs.code.HeldStreams.{held}
 use Rattle.quiet_pass.specs.code.Rows.{AreRisingFrom, AreRowsSaid, AreStepped, IsRowMoved, IsRowOfParity, IsRowSaid}
-use Rattle.quiet_pass.specs.code.Rows.{entry_in, row_said}
-use Rattle.quiet_pass.specs.code.Streams.{AreRowsOf, AreStreams, IsChangeSaid}
+use Rattle.quiet_pass.specs.code.Rows.{IsRowStepped, entry_in, row_said}
+use Rattle.quiet_pass.specs.code.Streams.{AreNames, AreRowsOf, AreStreams, IsChangeSaid}
 use Rattle.quiet_pass.specs.declared.kept_streams.Streams.{Streams}
 use Rattle.quiet_pass.specs.declared.opened_rows.Row.{Row}
 
@@ -58,6 +59,32 @@ distinct-both (x ∷ a) b p q odd even = (
   distinct-both a b p.1 q odd.1 even,
 )
 
+-- the streams of the rows of a connection
+pub names-of : (base : ℕ → Stream) (kept : Streams) → AreRowsOf base kept
+    → AreNames (named_in kept.opened.items ++ named_in kept.promised.items)
+names-of base kept h =
+    let one = named_in kept.opened.items in
+    let two = named_in kept.promised.items in
+    let odd = each-of (IsRowOfParity 1) kept.opened.items h.opened_odd in
+    let even = each-of (IsRowOfParity 0) kept.promised.items h.promised_even in record {
+      named = each-append (λ (s : ℕ). 0 < s) one two (each-above 0 kept.opened.items h.opened)
+          (each-above 0 kept.promised.items h.promised);
+      small = each-append (λ (s : ℕ). s < 2 ^ 31) one two
+          (each-named (λ s. s < 2 ^ 31) kept.opened.items
+          (each-weaker (IsRowOfParity 1) (λ (row : Row). row.stream < 2 ^ 31) (λ row h. h.small) kept.opened.items odd))
+          (each-named (λ s. s < 2 ^ 31) kept.promised.items
+          (each-weaker (IsRowOfParity 0) (λ (row : Row). row.stream < 2 ^ 31) (λ row h. h.small)
+          kept.promised.items even));
+      once = distinct-both one two (distinct-in 0 kept.opened.items h.opened)
+          (distinct-in 0 kept.promised.items h.promised)
+          (each-named (λ s. s % 2 ≡ 1) kept.opened.items
+          (each-weaker (IsRowOfParity 1) (λ (row : Row). row.stream % 2 ≡ 1) (λ row h. h.parity) kept.opened.items
+          odd))
+          (each-named (λ s. s % 2 ≡ 0) kept.promised.items
+          (each-weaker (IsRowOfParity 0) (λ (row : Row). row.stream % 2 ≡ 0) (λ row h. h.parity)
+          kept.promised.items even));
+    }
+
 pub none-both : (test : ℕ → Bool) (a b : List ℕ) → list_any test (a ++ b) ≡ false
     → (list_any test a ≡ false) × (list_any test b ≡ false)
 none-both test [] b h = (refl, h)
@@ -65,7 +92,7 @@ none-both test (x ∷ a) b h =
     let parts = or_parts (test x) (list_any test (a ++ b)) h in
     let rest = none-both test a b parts.1 in (rw (parts.0, rest.0) refl, rest.1)
 
-missing-idle : (s : ℕ) (rows : List Row) → list_any (λ one. one == s) (named_in rows) ≡ false
+pub missing-idle : (s : ℕ) (rows : List Row) → list_any (λ one. one == s) (named_in rows) ≡ false
     → entry_in rows s ≡ idle_stream
 missing-idle s [] none = refl
 missing-idle s (row ∷ rows) none =
@@ -124,11 +151,17 @@ module _ (initial : Sides ℕ) (step : Step) (alone : step.frame ≡ None) where
       pub base : ℕ → Stream
       pub rows : AreRowsOf base old
       pub is : (s : ℕ) → 0 < s → streams s ≡ raise (base s)
-      pub odd : AllByRecursion (IsRowOfParity 1) old.opened.items
-      pub even : AllByRecursion (IsRowOfParity 0) old.promised.items
       pub mid : List Finding
       pub one : shown false mid ≡ shown false before ++ shown false (flat_map said-of old.opened.items)
       pub two : shown false after ≡ shown false mid ++ shown false (flat_map said-of old.promised.items)
+
+    own-odd : (old : Streams) {before after : List Finding} (streams : ℕ → Stream)
+        → AreRaised old before after streams → AllByRecursion (IsRowOfParity 1) old.opened.items
+    own-odd old streams r = each-of (IsRowOfParity 1) old.opened.items r.rows.opened_odd
+
+    own-even : (old : Streams) {before after : List Finding} (streams : ℕ → Stream)
+        → AreRaised old before after streams → AllByRecursion (IsRowOfParity 0) old.promised.items
+    own-even old streams r = each-of (IsRowOfParity 0) old.promised.items r.rows.promised_even
 
     unnamed : (old : Streams) {before after : List Finding} (streams : ℕ → Stream)
         → AreRaised old before after streams → (s : ℕ) → 0 < s
@@ -155,66 +188,45 @@ module _ (initial : Sides ℕ) (step : Step) (alone : step.frame ≡ None) where
         (sym (shown-append false one two)
         ∙ ap (shown false)
         (ap₂ (λ (a b : List Finding). a ++ b)
-        (rows-said 1 0 old.opened.items streams r.rows.opened r.odd
+        (rows-said 1 0 old.opened.items streams r.rows.opened (own-odd old streams r)
         (λ s above p. r.is s above ∙ ap raise (r.rows.odd s p)))
-        (rows-said 0 0 old.promised.items streams r.rows.promised r.even
+        (rows-said 0 0 old.promised.items streams r.rows.promised (own-even old streams r)
         (λ s above p. r.is s above ∙ ap raise (r.rows.even s p above)))
         ∙ sym (flat_map-append rule (named_in old.opened.items) (named_in old.promised.items))))
 
     -- the whole of it
-    pub said-by : {kept : Bool} {old new : Streams} {before after : List Finding}
+    pub said-by : {old : Streams} (Kept : (ℕ → Stream) → Type 0) {before after : List Finding}
         → ((streams : ℕ → Stream) → AreStreams streams old → AreRaised old before after streams)
-        → (kept ≡ true → (streams : ℕ → Stream) → AreStreams streams old
-        → AreStreams (λ s. stream_after s initial (streams s) step) new)
-        → IsChangeSaid initial step kept old new before after
-    said-by {kept} {old} {new} all met =
-        let one = named_in old.opened.items in
-        let two = named_in old.promised.items in record {
-          some = one ++ two;
-          small = λ streams h. each-append (λ (s : ℕ). s < 2 ^ 31) one two
-              (each-named (λ s. s < 2 ^ 31) old.opened.items
-              (each-weaker (IsRowOfParity 1) (λ (row : Row). row.stream < 2 ^ 31) (λ row h. h.small) old.opened.items
-              (all streams h).odd))
-              (each-named (λ s. s < 2 ^ 31) old.promised.items
-              (each-weaker (IsRowOfParity 0) (λ (row : Row). row.stream < 2 ^ 31) (λ row h. h.small)
-              old.promised.items (all streams h).even));
-          said = λ streams h. all-said old streams (all streams h);
-          named = λ streams h. each-append (λ (s : ℕ). 0 < s) one two
-              (each-above 0 old.opened.items (all streams h).rows.opened)
-              (each-above 0 old.promised.items (all streams h).rows.promised);
-          once = λ streams h. distinct-both one two (distinct-in 0 old.opened.items (all streams h).rows.opened)
-              (distinct-in 0 old.promised.items (all streams h).rows.promised)
-              (each-named (λ s. s % 2 ≡ 1) old.opened.items
-              (each-weaker (IsRowOfParity 1) (λ (row : Row). row.stream % 2 ≡ 1) (λ row h. h.parity) old.opened.items
-              (all streams h).odd))
-              (each-named (λ s. s % 2 ≡ 0) old.promised.items
-              (each-weaker (IsRowOfParity 0) (λ (row : Row). row.stream % 2 ≡ 0) (λ row h. h.parity)
-              old.promised.items (all streams h).even));
-          others = λ streams h other above none.
-              let parts = none-both (λ n. n == other) one two none in
-              ap (λ (entry : Stream). shown false (stream_said other initial entry step))
-              (unnamed old streams (all streams h) other above parts.0 parts.1) ∙ ap (shown false) (idle-said other);
-          met = met;
-        }
+        → ((streams : ℕ → Stream) → AreStreams streams old
+        → Kept (λ s. stream_after s initial (streams s) step))
+        → IsChangeSaid initial step (λ streams. AreStreams streams old) Kept before after
+    said-by {old} Kept all met = record {
+      some = named_in old.opened.items ++ named_in old.promised.items;
+      names = λ streams h. names-of (all streams h).base old (all streams h).rows;
+      said = λ streams h. all-said old streams (all streams h);
+      others = λ streams h other above none.
+          let parts = none-both (λ n. n == other) (named_in old.opened.items) (named_in old.promised.items) none in
+          ap (λ (entry : Stream). shown false (stream_said other initial entry step))
+          (unnamed old streams (all streams h) other above parts.0 parts.1) ∙ ap (shown false) (idle-said other);
+      met = met;
+    }
 
   -- where rows hold all of the streams
   pub change-said : {odd even : Bool} {old new : Streams} {before mid after : List Finding} → old.shifted ≡ None
-      → new.shifted ≡ None → AreRowsSaid 1 initial step odd old.opened.items new.opened.items before mid
-      → AreRowsSaid 0 initial step even old.promised.items new.promised.items mid after
-      → IsChangeSaid initial step (odd && even) old new before after
-  change-said {odd} {even} {old} {new} {before} {mid} {after} none still o e =
-      said-by (λ entry. entry) refl
+      → new.shifted ≡ None → AreRowsSaid initial step odd old.opened.items new.opened.items before mid
+      → AreRowsSaid initial step even old.promised.items new.promised.items mid after → (odd && even) ≡ true
+      → IsChangeSaid initial step (λ streams. AreStreams streams old) (λ streams. AreStreams streams new) before after
+  change-said {odd} {even} {old} {new} {before} {mid} {after} none still o e k =
+      said-by (λ entry. entry) refl (λ next. AreStreams next new)
       (λ streams h. record {
         base = streams;
         rows = rows-of streams old none h;
         is = λ s above. refl;
-        odd = o.own;
-        even = e.own;
         mid = mid;
         one = o.said;
         two = e.said;
       })
-      (λ k streams all.
+      (λ streams all.
       let both = both-kept odd even k in
       let h = rows-of streams old none all in
       of-rows (λ s. stream_after s initial (streams s) step) new still (record {
@@ -226,25 +238,28 @@ module _ (initial : Sides ℕ) (step : Step) (alone : step.frame ≡ None) where
             ∙ entries-stepped old.promised.items new.promised.items s (e.stepped both.1);
         opened = rising-stepped 0 old.opened.items new.opened.items (o.stepped both.0) h.opened;
         promised = rising-stepped 0 old.promised.items new.promised.items (e.stepped both.1) h.promised;
+        opened_odd = parity-zip (IsRowStepped initial step) (λ one two m. m.same) 1 old.opened.items new.opened.items
+            (o.stepped both.0) h.opened_odd;
+        promised_even = parity-zip (IsRowStepped initial step) (λ one two m. m.same) 0 old.promised.items
+            new.promised.items (e.stepped both.1) h.promised_even;
       }))
 
 -- ---- a change that moves no window
 
-pub quiet-said : (initial : Sides ℕ) (number : ℕ) (change : Option Change) (kept : Streams) (found : List Finding)
+pub quiet-said : (initial : Sides ℕ) (number : ℕ) (change : Option Change) (Kept : (ℕ → Stream) → Type 0)
+    → ((f g : ℕ → Stream) → ((o : ℕ) → 0 < o → f o ≡ g o) → Kept f → Kept g) → (found : List Finding)
     → initial ≡ initial_after change initial
-    → IsChangeSaid initial (change_alone number change) true kept kept found found
+    → IsChangeSaid initial (change_alone number change) Kept Kept found found
 unfolding IsDistinct
-quiet-said initial number change kept found is =
+quiet-said initial number change Kept same found is =
     let still = λ (s : ℕ) (entry : Stream).
     step-alone s initial initial number change entry entry (unmoved-entry initial entry) is in record {
       some = [];
-      small = λ streams h. tt;
+      names = λ streams h. record { named = tt; small = tt; once = tt };
       said = λ streams h. sym (append-nil (shown false found));
-      named = λ streams h. tt;
-      once = λ streams h. tt;
       others = λ streams h other above none. none-shown _ (still other (streams other)).said;
-      met = λ _ streams h.
-          streams-same streams (λ s. stream_after s initial (streams s) (change_alone number change)) kept
+      met = λ streams h.
+          same streams (λ s. stream_after s initial (streams s) (change_alone number change))
           (λ s above. (still s (streams s)).after) h;
     }
 
@@ -297,3 +312,18 @@ pub said-all : (initial : Sides ℕ) (step : Step) (old : List Row) (at : ℕ) (
 said-all initial step old at found none was =
     sym (append-nil (shown false found))
     ∙ ap (λ l. shown false found ++ shown false (flat_map (row_said initial step) l)) (sym none) ∙ was
+
+-- ---- what was found is put behind other findings
+
+pub said-behind : {initial : Sides ℕ} {step : Step} {Was Kept : (ℕ → Stream) → Type 0} {own after : List Finding}
+    (before : List Finding) → IsChangeSaid initial step Was Kept [] own → after ≡ before ++ own
+    → IsChangeSaid initial step Was Kept before after
+said-behind {own = own} before said is = record {
+  some = said.some;
+  names = said.names;
+  said = λ streams h.
+      ap (shown false) is ∙ shown-append false before own
+      ∙ ap (λ (l : List Finding). shown false before ++ l) (said.said streams h);
+  others = said.others;
+  met = said.met;
+}

@@ -22,11 +22,9 @@ use Rattle.quiet_pass.specs.declared.found_passes.FoundPass.{FoundPass}
 use Rattle.stream_credit.proofs.QuietSteps.{none-shown}
 use Rattle.stream_credit.proofs.Words.{◌≡◌, ℕ, ◌+◌, ◌<◌, ◌==◌, Bool, true, false, List, [], ◌∷◌, ◌++◌, Some, Option}
 use Rattle.stream_credit.proofs.Words.{refl, sym, ap, ◌∙◌, arith, append-nil, append_assoc, is_some}
-use Rattle.stream_credit.proofs.Words.{AllByRecursion, Finding, Frame, IfOk-weaker, OnTrue_at, OnTrue_from, shown}
+use Rattle.stream_credit.proofs.Words.{AllByRecursion, Finding, Frame, shown}
 use Rattle.stream_credit.proofs.Words.{length}
 use Rattle.stream_credit.proofs.Words.{cases_Bool, idle_stream, inl, inr, nat_tests, ne_eqb, or_parts, subst, upto_stop}
-use Rattle.std.specs.Bool.{OnTrue}
-use Rattle.std.specs.Prelude.{IfOk, Result}
 
 -- ---- lists
 
@@ -316,21 +314,18 @@ module _ {frames : List Frame} {old : FoundPass} (frame : Frame) (h : IsFoundAft
   }
 
 -- the same of what the code says, whose machine did not meet the frame quietly just before
-pub said-after : {E : Type 0} (frame : Frame) (old mid new : FoundPass) (result : Result Bool E)
-    → old.has_stopped ≡ false → MovesLittle frame → mid.pass ≡ old.pass
-    → IfOk result (λ said. OnTrue said (HasSaid frame mid new)) → mid.found ≡ old.found → mid.shown_at ≡ old.shown_at
-    → IfOk result (λ met. OnTrue met ((frames : List Frame) → IsFoundAfter frames old
-    → IsOrderly (frames ++ frame ∷ []) → IsFoundAfter (frames ++ frame ∷ []) new))
-said-after frame old mid new result on small left spoken found shown_at =
-    IfOk-weaker result _ _ (λ b h. OnTrue_from b _ (λ e. λ frames before orderly.
-    let has = OnTrue_at e h in
+pub said-after : (frame : Frame) (old mid new : FoundPass) → old.has_stopped ≡ false → MovesLittle frame
+    → mid.pass ≡ old.pass → HasSaid frame mid new → mid.found ≡ old.found → mid.shown_at ≡ old.shown_at
+    → (frames : List Frame) → IsFoundAfter frames old → IsOrderly (frames ++ frame ∷ [])
+    → IsFoundAfter (frames ++ frame ∷ []) new
+said-after frame old mid new on small left has found shown_at frames before orderly =
     said-more frame before on small orderly has.said
     (has.step (state_after before.met) (rw left (before.goes_on on).1))
     (record {
       found = rw (← found) has.added.found;
       shown_at = rw (← shown_at) has.added.shown_at;
       stopped = has.added.stopped;
-    }))) spoken
+    })
 
 -- ---- all frames
 

@@ -11,6 +11,8 @@ mod SaidLemmas
 mod GroupLemmas
 mod ShiftedLemmas
 mod SettingsLemmas
+mod WholeLemmas
+mod AllLemmas
 mod FoundLemmas
 mod RoomLemmas
 mod OpenedLemmas

@@ -17,14 +17,16 @@ use Rattle.stream_credit.proofs.QuietSteps.{both, unsaid}
 use Rattle.audit_terms.specs.declared.last_frames.LastFrame.{LastFrame}
 use Rattle.settings_pair.specs.declared.pending_settings.Pending.{Pending}
 use Rattle.quiet_pass.specs.declared.passes.QuietPass.{QuietPass}
-use Rattle.quiet_pass.specs.declared.kept_streams.Streams.{Streams}
+use Rattle.quiet_pass.specs.declared.all_streams.AllStreams.{AllStreams}
 use Rattle.stream_credit.specs.code.Standings.{IsQuiet, AreQuiet}
 use Rattle.audit_terms.specs.code.LastFrame.{last_of}
 use Rattle.settings_pair.specs.code.Pending.{IsPending, IsBrought}
 use Rattle.quiet_pass.specs.code.Connection.{as_item, IsConnectionAfter}
-use Rattle.quiet_pass.specs.code.Streams.{AreStreams, AreMet, AreMetOn}
+use Rattle.quiet_pass.specs.code.AllStreams.{AreKept}
+use Rattle.quiet_pass.specs.code.Streams.{AreMet, AreMetOn}
 use Rattle.quiet_pass.specs.code.QuietPass.{AreNamed, BringsNothing, HasBrought, IsQuietStep, IsRestMet, StandsFor}
 use Rattle.stream_credit.proofs.StandingLemmas.{promises-other}
+use Rattle.quiet_pass.proofs.AllLemmas.{kept-same}
 use Rattle.quiet_pass.proofs.StreamLemmas.{all-past}
 
 -- ---- the connection and the streams
@@ -65,14 +67,17 @@ rest-still {frame} {change} {old} {new} mid b answered zero unpromised c is p l 
   connection = rw (← b.connection) c;
   opening = λ streams h. unopened frame (streams frame.stream) zero;
   streams = λ streams h.
-      subst (λ (kept : Streams). AreMet old.initial frame change streams kept) (sym (s ∙ b.streams))
-      (all-past old.initial frame change old.streams streams zero unpromised (rw b.initial at is) h);
+      subst (λ (kept : AllStreams). AreMet old.initial frame change streams (λ next. AreKept next kept))
+      (sym (s ∙ b.streams))
+      (all-past old.initial frame change (λ next. AreKept next old.streams) (kept-same old.streams) streams zero
+      unpromised (rw b.initial at is) h);
   initial = i ∙ is ∙ ap (initial_after change) b.initial;
   last = l ∙ b.last;
 }
 
 pub rest-stream : {frame : Frame} {opens : Bool} {old new : QuietPass} → BringsNothing frame
-    → ((streams : ℕ → Stream) → AreStreams streams old.streams → AreMetOn old.initial frame opens streams new.streams)
+    → ((streams : ℕ → Stream) → AreKept streams old.streams
+    → AreMetOn old.initial frame opens streams (λ next. AreKept next new.streams))
     → IsConnectionAfter frame opens None old.connection new.connection → new.pending ≡ old.pending
     → new.last ≡ old.last → new.initial ≡ old.initial → IsRestMet frame old new
 rest-stream {frame} {opens} {old} plain met c p l i = record {
@@ -88,11 +93,12 @@ rest-stream {frame} {opens} {old} plain met c p l i = record {
 }
 
 -- a frame on stream 0
-pub unmet : {frame : Frame} (initial : Sides ℕ) (streams : ℕ → Stream) (kept : Streams) → frame.stream ≡ 0
-    → is_server_promise frame ≡ false → AreStreams streams kept → AreMetOn initial frame false streams kept
+pub unmet : {frame : Frame} (initial : Sides ℕ) (streams : ℕ → Stream) (kept : AllStreams) → frame.stream ≡ 0
+    → is_server_promise frame ≡ false → AreKept streams kept
+    → AreMetOn initial frame false streams (λ next. AreKept next kept)
 unmet {frame} initial streams kept zero unpromised h = record {
   opening = unopened frame (streams frame.stream) zero;
-  met = all-past initial frame None kept streams zero unpromised refl h;
+  met = all-past initial frame None (λ next. AreKept next kept) (kept-same kept) streams zero unpromised refl h;
 }
 
 -- ---- one frame
@@ -123,7 +129,8 @@ module _ (frame : Frame) (old mid : QuietPass) (state : PassState) (stands : Sta
   own : IsBrought state.in_force frame rest.change mid.pending
   own = rest.brought state.in_force stands.pending
 
-  all : AreMet state.in_force.initial frame (change_of state.in_force frame) state.streams mid.streams
+  all : AreMet state.in_force.initial frame (change_of state.in_force frame) state.streams
+      (λ next. AreKept next mid.streams)
   all = rw (own.brings, ← stands.initial) (rest.streams state.streams stands.streams)
 
   item : as_item frame rest.opens rest.change ≡ item_of state frame

@@ -19,8 +19,8 @@ use Rattle.audit_terms.specs.declared.{frames.Body.Body, frames.Body.TheVariants
 use Rattle.audit_terms.specs.declared.{items.Change.Change, settings.Settings.Settings, sides.Side.Side}
 use Rattle.audit_terms.specs.declared.sides.{Side.TheVariants.Client, Side.TheVariants.Server}
 use Rattle.audit_terms.specs.declared.stream_state.Stream.{Stream}
-use Rattle.std.proofs.Common.{Bool, List, None, Option, Some, [], ap, arith, false, if◌then◌else◌, inl, inr, length, pos}
-use Rattle.std.proofs.Common.{refl, slice_get, subst, suc, true, zero, ℕ, ℤ, ◌&&◌, ◌*◌, ◌++◌, ◌+◌, ◌+ℤ◌, ◌-ℤ◌, ◌<◌}
+use Rattle.std.proofs.Common.{Bool, List, None, Option, Some, [], ap, arith, false, if◌then◌else◌, inl, inr, length}
+use Rattle.std.proofs.Common.{pos, refl, slice_get, subst, suc, true, zero, ℕ, ℤ, ◌&&◌, ◌*◌, ◌++◌, ◌+◌, ◌+ℤ◌, ◌-ℤ◌, ◌<◌}
 use Rattle.std.proofs.Common.{◌∷◌, ◌≡◌, ◌≤◌, ◌⊎◌, ◌^◌, ◌==◌, ◌||◌, length-append, ◌∙◌, append-nil, sym}
 use Rattle.std.proofs.Math.Bool.{and-false}
 use Rattle.std.proofs.lemmas.Bool.{cond_both}
@@ -29,6 +29,7 @@ use Rattle.std.specs.List.{AllByRecursion}
 use Rattle.std.specs.Option.{ForSome, option_map_or, unwrap_or}
 use Rattle.quiet_pass.proofs.FoundLemmas.{orderly-upto}
 use Rattle.quiet_pass.specs.code.FoundPass.{IsFoundAfter}
+use Rattle.quiet_pass.specs.code.AllStreams.{HoldRoom}
 use Rattle.quiet_pass.specs.code.QuietPass.{HasRoomKept, HasRoomLeft, IsInitialSmall, MovesLittle}
 use Rattle.quiet_pass.specs.declared.found_passes.FoundPass.{FoundPass}
 use Rattle.quiet_pass.specs.declared.passes.QuietPass.{QuietPass}
@@ -303,3 +304,7 @@ pub connection-kept : {machine : QuietPass} → HasRoomKept machine
     → HaveRoom (2 ^ 60) machine.connection.state.credit
 connection-kept kept =
     subst (λ (now : ConnectionState). HaveRoom (2 ^ 60) now.credit) (sym kept.connection) kept.room.connection
+
+pub streams-kept : {machine : QuietPass} → HasRoomKept machine → HoldRoom machine.streams
+streams-kept kept =
+    (kept.state.streams, kept.streams, record { client = kept.room.client; server = kept.room.server })

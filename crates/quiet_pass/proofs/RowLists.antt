@@ -1,8 +1,8 @@
 -- Lists of rows: where one is replaced, where one is added, and where all are moved.
 use Rattle.stream_credit.proofs.Words.{nat_tests, Sides, Frame, Stream, idle_stream, opened_of, IsNextOpened}
 use Rattle.stream_credit.proofs.Words.{None, AllByRecursion, ap, cases_eq, inl, inr, ne_eqb, recursion_from_All}
-use Rattle.stream_credit.proofs.Words.{same_Some, sym, ◌∙◌, ◌≤◌, Step}
-use Rattle.std.specs.List.{All, Sorted.IsNonDecreasingBy}
+use Rattle.stream_credit.proofs.Words.{same_Some, subst, sym, ◌∙◌, ◌≤◌, Step}
+use Rattle.std.specs.List.{All, AllZip, Sorted.IsNonDecreasingBy}
 use Rattle.stream_credit.specs.declared.stream_standings.Standings.{Standings}
 use Rattle.std.proofs.Common.{◌≡◌, ◌≢◌, ℕ, zero, suc, ◌-◌, ◌<◌, List, [], ◌∷◌, ◌++◌, length, get_or, slice_get}
 use Rattle.std.proofs.Common.{slice_set, Some, true, false, refl, arith}
@@ -11,6 +11,7 @@ use Rattle.quiet_pass.proofs.HeldLemmas.{unlow}
 use Rattle.quiet_pass.specs.code.HeldStreams.{held, is_low}
 use Rattle.quiet_pass.specs.code.Rows.{entry_in, AreRisingFrom, AreRising, IsAboveAll, IsRowOf, IsRowAfter}
 use Rattle.quiet_pass.specs.code.Rows.{IsOpened, IsMetOn, IsPut, IsRowStepped, AreStepped}
+use Rattle.quiet_pass.specs.code.Rows.{AreOfParity, IsOfParity, IsRowOfParity}
 
 -- ---- the row of a stream
 
@@ -55,6 +56,44 @@ missed-idle rows stream missed rising =
     entry-missed rows stream
     (recursion_from_All (λ (row : Row). row.stream ≢ stream) rows (missed (rows-rise 0 rows rising)))
 
+-- ---- rows of odd or of even streams
+
+parity-set : (remainder : ℕ) (rows : List Row) (at : ℕ) (next : Row) → IsRowOfParity remainder next
+    → AreOfParity remainder rows → AreOfParity remainder (slice_set rows at next)
+parity-set remainder [] at next is all k row there = all k row there
+parity-set remainder (one ∷ rows) zero next is all zero row there =
+    subst (λ (row : Row). IsRowOfParity remainder row) (same_Some next row there) is
+parity-set remainder (one ∷ rows) zero next is all (suc k) row there = all (suc k) row there
+parity-set remainder (one ∷ rows) (suc at) next is all zero row there = all zero row there
+parity-set remainder (one ∷ rows) (suc at) next is all (suc k) row there =
+    parity-set remainder rows at next is (λ k row there. all (suc k) row there) k row there
+
+parity-push : (remainder : ℕ) (rows : List Row) (next : Row) → IsRowOfParity remainder next
+    → AreOfParity remainder rows → AreOfParity remainder (rows ++ next ∷ [])
+parity-push remainder [] next is all zero row there =
+    subst (λ (row : Row). IsRowOfParity remainder row) (same_Some next row there) is
+parity-push remainder [] next is all (suc k) row there = cc
+parity-push remainder (one ∷ rows) next is all zero row there = all zero row there
+parity-push remainder (one ∷ rows) next is all (suc k) row there =
+    parity-push remainder rows next is (λ k row there. all (suc k) row there) k row there
+
+-- of rows that stand in the place of others, each of the same stream
+pub parity-zip : (R : Row → Row → Type 0) → ((one two : Row) → R one two → two.stream ≡ one.stream)
+    → (remainder : ℕ) (old new : List Row) → AllZip R old new → AreOfParity remainder old → AreOfParity remainder new
+parity-zip R same remainder [] [] zip all k row there = all k row there
+parity-zip R same remainder [] (two ∷ new) zip all k row there = absurd zip
+parity-zip R same remainder (one ∷ old) [] zip all k row there = absurd zip
+parity-zip R same remainder (one ∷ old) (two ∷ new) zip all zero row there =
+    subst (λ (stream : ℕ). IsOfParity remainder stream)
+    (sym (same one two zip.0) ∙ ap (λ (row : Row). row.stream) (same_Some two row there)) (all zero one refl)
+parity-zip R same remainder (one ∷ old) (two ∷ new) zip all (suc k) row there =
+    parity-zip R same remainder old new zip.1 (λ k row there. all (suc k) row there) k row there
+
+pub each-of : (P : Row → Type 0) (rows : List Row) → ((at : ℕ) (row : Row) → slice_get rows at ≡ Some row → P row)
+    → AllByRecursion P rows
+each-of P [] each = tt
+each-of P (row ∷ rows) each = (each zero row refl, each-of P rows (λ at one there. each (suc at) one there))
+
 -- ---- one row replaced
 
 module _ (row next : Row) (same : next.stream ≡ row.stream) where
@@ -89,6 +128,7 @@ row-put rows stream at next of same rising =
           (entry-there 0 (slice_set rows at next) at next risen (set-there of.row next same rows at of.there));
       others = λ other differ. set-others of.row next same rows at other of.there (rw of.same differ);
       rising = risen;
+      parity = λ remainder is all. parity-set remainder rows at next (rw (same ∙ of.same) is) all;
     }
 
 -- a row that is met quietly keeps its opening frame, so that it is marked after that as before
@@ -128,6 +168,7 @@ row-met rows at frame next of after rising initial =
       after = rw (own, old) (after.next.next initial).after;
       others = put.others;
       rising = put.rising;
+      parity = put.parity;
     }
 
 -- ---- a row added
@@ -165,6 +206,7 @@ row-opened rows stream initial frame row past opened rising =
       after = rw (push-own rows row stream past opened.same ∙ unlow row.standings opened.full, old) opened.by.after;
       others = λ other differ. push-others rows row other (rw opened.same differ);
       rising = push-rising 0 rows row rising (rw opened.same past) (rw opened.same (past-above rows stream past));
+      parity = λ remainder is all. parity-push remainder rows row (rw opened.same is) all;
     }
 
 pub row-added : (rows : List Row) (row : Row) → IsAboveAll rows row.stream → AreRising rows
@@ -173,6 +215,7 @@ row-added rows row past rising = record {
   own = push-own rows row row.stream past refl;
   others = λ other differ. push-others rows row other differ;
   rising = push-rising 0 rows row rising past (past-above rows row.stream past);
+  parity = λ remainder is all. parity-push remainder rows row is all;
 }
 
 -- a stream past the last row of rows that rise
@@ -204,9 +247,3 @@ pub stepped-each : (initial : Sides ℕ) (step : Step) (old new : List Row) → 
     → AreStepped initial step old new
 stepped-each initial step =
     each-row (IsRowStepped initial step) (AreStepped initial step) tt (λ one two old new row rest. (row, rest))
-
-pub own-each : (P : Row → Type 0) (rows : List Row) → ((at : ℕ) (d : Row) → at < length rows → P (get_or rows at d))
-    → AllByRecursion P rows
-own-each P [] each = tt
-own-each P (one ∷ rows) each =
-    (each zero one (omega arith), own-each P rows (λ at d l. each (suc at) d (omega (arith, l))))

@@ -16,12 +16,13 @@ use Rattle.audit_terms.specs.code.runs.Orderly.{IsInRange}
 use Rattle.quiet_pass.proofs.AlikeLemmas.{alike-parts, alike-shown, same-order}
 use Rattle.quiet_pass.proofs.ChangeLemmas.{none-both}
 use Rattle.quiet_pass.proofs.PassLemmas.{last-if, named-first, plain-brought, unopened}
-use Rattle.quiet_pass.proofs.StreamLemmas.{step-past, streams-put}
+use Rattle.quiet_pass.proofs.StreamLemmas.{step-past}
 use Rattle.quiet_pass.specs.code.Connection.{as_item}
 use Rattle.quiet_pass.specs.code.QuietPass.{AreNamed, BringsNothing, StandsFor}
 use Rattle.quiet_pass.specs.code.SaidFrames.{HaveOwn, IsConnectionKept, IsConnectionSaid, IsEntrySaid, IsKeptAfter}
 use Rattle.quiet_pass.specs.code.SaidFrames.{IsSaidStep}
-use Rattle.quiet_pass.specs.code.Streams.{AreStreams, as_step}
+use Rattle.quiet_pass.specs.code.AllStreams.{AreKept}
+use Rattle.quiet_pass.specs.code.Streams.{as_step}
 use Rattle.audit_terms.specs.declared.items.Item.{Item}
 use Rattle.audit_terms.specs.declared.last_frames.LastFrame.{LastFrame}
 use Rattle.audit_terms.specs.declared.sides.Side.{Side}
@@ -257,7 +258,7 @@ module _ (frame : Frame) where
     | inr unmet ↦ rw (unmet, ne_eqb frame.stream o (λ e. differ (sym e))) refl
   ]
 
-  promised-small : IsInRange frame → promised_by frame < 2 ^ 31
+  pub promised-small : IsInRange frame → promised_by frame < 2 ^ 31
   promised-small range = elim (cases_Bool (promises (promised_in frame.body) frame)) [
     | inl met ↦ rw met range.promised
     | inr unmet ↦ rw unmet (omega arith)
@@ -336,7 +337,7 @@ module _ (frame : Frame) (old : QuietPass) (state : PassState) (stands : StandsF
 
   -- the machine after the frame
   next-stands : (new : QuietPass) {connection : ConnectionState} → IsConnectionKept frame connection old new
-      → connection ≡ connection_after state.connection (item_of state frame) → AreStreams after-of new.streams
+      → connection ≡ connection_after state.connection (item_of state frame) → AreKept after-of new.streams
       → StandsFor new (next state frame)
   next-stands new keeps connection streams = record {
     client = keeps.client ∙ last-if _ frame state.previous.client old.last.client stands.client;
@@ -345,7 +346,7 @@ module _ (frame : Frame) (old : QuietPass) (state : PassState) (stands : StandsF
     initial = keeps.initial ∙ stands.initial
         ∙ ap (λ (change : Option Change). initial_after change state.in_force.initial) (sym no-change);
     connection = keeps.kept ∙ connection;
-    streams = subst (λ (change : Option Change). AreStreams (λ s.
+    streams = subst (λ (change : Option Change). AreKept (λ s.
         stream_after s state.in_force.initial (state.streams s) (as_step frame change s)) new.streams) (sym no-change)
         streams;
   }
@@ -369,18 +370,18 @@ module _ (frame : Frame) (old : QuietPass) (state : PassState) (stands : StandsF
     ]
 
     kept-streams : {new : QuietPass} {connection : ConnectionState}
-        → IsKeptAfter frame connection own promised old new → AreStreams after-of new.streams
+        → IsKeptAfter frame connection own promised old new → AreKept after-of new.streams
     kept-streams {new} kept =
-        streams-put (promised_by frame) promised mid-of after-of promised-is after-mid kept.mid new.streams
-        (streams-put frame.stream own state.streams mid-of (λ some. mid-own frame.stream refl)
-        (λ s above differ. mid-other s differ) old.streams kept.mid stands.streams kept.one) kept.other
+        kept.other mid-of after-of promised-is after-mid
+        (kept.one state.streams mid-of (λ some. mid-own frame.stream refl) (λ s above differ. mid-other s differ)
+        stands.streams)
 
 -- the whole of it
 pub said-plain : {frame : Frame} {old new : QuietPass} {opens : Bool} {connection : ConnectionState}
     {start before one after found : List Finding} {own-next promised-next : Stream} (own promised : Stream) (p : ℕ)
     → p ≡ promised_by frame → IsInRange frame → BringsNothing frame
-    → (0 < frame.stream → (streams : ℕ → Stream) → AreStreams streams old.streams → streams frame.stream ≡ own)
-    → (0 < p → (streams : ℕ → Stream) → AreStreams streams old.streams → streams p ≡ promised)
+    → (0 < frame.stream → (streams : ℕ → Stream) → AreKept streams old.streams → streams frame.stream ≡ own)
+    → (0 < p → (streams : ℕ → Stream) → AreKept streams old.streams → streams p ≡ promised)
     → opens ≡ is_opening frame.stream own.life frame
     → IsConnectionSaid old frame opens None start before connection → start ≡ []
     → IsEntrySaid frame.stream old.initial frame own own-next before one
@@ -391,7 +392,7 @@ pub said-plain : {frame : Frame} {old new : QuietPass} {opens : Bool} {connectio
 said-plain {frame} {old} {new} {opens} {connection} {start} {before} {one} {after} {found} {own-next} {promised-next}
     own promised p named range plain own-stood stood opening spoken empty said-own other-said is kept state stands =
     let promised-stood =
-    subst (λ (n : ℕ). 0 < n → (streams : ℕ → Stream) → AreStreams streams old.streams → streams n ≡ promised) named
+    subst (λ (n : ℕ). 0 < n → (streams : ℕ → Stream) → AreKept streams old.streams → streams n ≡ promised) named
     stood in
     let said-promised =
     subst (λ (n : ℕ). IsEntrySaid n old.initial frame promised promised-next one after) named other-said in

@@ -8,16 +8,17 @@ use Rattle.quiet_pass.proofs.ChangeLemmas.{quiet-said}
 use Rattle.quiet_pass.proofs.PassLemmas.{last-if, none-taken}
 use Rattle.quiet_pass.proofs.SaidLemmas.{AreAllSaid, opens-as, said-step, said_of, spoken-next}
 use Rattle.quiet_pass.proofs.StreamFrames.{after-still, said-still, unopened-still}
-use Rattle.quiet_pass.proofs.StreamLemmas.{streams-same}
+use Rattle.quiet_pass.proofs.AllLemmas.{kept-same}
 use Rattle.quiet_pass.specs.code.Connection.{as_item}
 use Rattle.quiet_pass.specs.code.QuietPass.{MovesNoStream, StandsFor}
 use Rattle.quiet_pass.specs.code.SaidFrames.{IsBroughtSaying, IsConnectionKept, IsConnectionSaid, IsSaidStep}
 use Rattle.quiet_pass.specs.code.SaidFrames.{change_alone}
+use Rattle.quiet_pass.specs.code.AllStreams.{AreKept}
 use Rattle.quiet_pass.specs.code.Streams.{IsChangeSaid}
-use Rattle.quiet_pass.specs.declared.kept_streams.Streams.{Streams}
+use Rattle.quiet_pass.specs.declared.all_streams.AllStreams.{AllStreams}
 use Rattle.quiet_pass.specs.declared.passes.QuietPass.{QuietPass}
 use Rattle.settings_pair.specs.code.Pending.{IsBrought, IsPending}
-use Rattle.stream_credit.proofs.Words.{◌≡◌, ℕ, ◌&&◌, Bool, true, false, List, [], ◌∷◌, ◌++◌, Option, refl, sym}
+use Rattle.stream_credit.proofs.Words.{◌≡◌, ℕ, ◌&&◌, Bool, false, List, [], ◌∷◌, ◌++◌, Option, refl, sym}
 use Rattle.stream_credit.proofs.Words.{ap, ◌∙◌, subst, is_ack, is_none, pos, say}
 use Rattle.stream_credit.proofs.Words.{Change, ConnectionState, Finding, Frame, InForce, Sides}
 use Rattle.stream_credit.proofs.Words.{flat_map, in_order, initial_after}
@@ -39,26 +40,27 @@ flat-same f g (s ∷ some) same = rw (same s, flat-same f g some same) refl
 -- where the windows stay as they are
 pub brought-quietly : {frame : Frame} {change : Option Change} (machine : QuietPass) (found : List Finding)
     → machine.initial ≡ initial_after change machine.initial
-    → IsBroughtSaying frame change true machine machine found found
+    → IsBroughtSaying frame change machine machine found found
 brought-quietly {frame} {change} machine found is = record {
   initial = is;
-  streams = quiet-said machine.initial frame.number change machine.streams found is;
+  streams = quiet-said machine.initial frame.number change (λ streams. AreKept streams machine.streams)
+      (kept-same machine.streams) found is;
   connection = refl;
   last = refl;
   pending = refl;
 }
 
 module _ {frame : Frame} {old mid moved new : QuietPass} {change : Option Change} {connection : ConnectionState}
-    {are-kept : Bool} {start before after found : List Finding} (range : IsInRange frame) (still : MovesNoStream frame)
+    {start before after found : List Finding} (range : IsInRange frame) (still : MovesNoStream frame)
     (brought : (now : InForce) → IsPending now old.pending → IsBrought now frame change mid.pending)
     (ml : mid.last ≡ old.last) (mi : mid.initial ≡ old.initial) (mc : mid.connection ≡ old.connection)
     (ms : mid.streams ≡ old.streams)
     (unmatched : start ≡ say (is_ack frame.body && is_none change)
     (finding_at UnmatchedAck frame.number frame.stream frame.side (pos 0)))
     (spoken : IsConnectionSaid mid frame false change start before connection)
-    (m : IsBroughtSaying frame change are-kept mid moved before after) (is : found ≡ shown false (in_order after))
+    (m : IsBroughtSaying frame change mid moved before after) (is : found ≡ shown false (in_order after))
     (kept : list_any stops found ≡ false
-    → (are-kept ≡ true) × IsConnectionKept frame connection moved new × (new.streams ≡ moved.streams)) where
+    → IsConnectionKept frame connection moved new × (new.streams ≡ moved.streams)) where
   module _ (state : PassState) (stands : StandsFor old state) where
     own : IsBrought state.in_force frame change mid.pending
     own = brought state.in_force stands.pending
@@ -77,14 +79,13 @@ module _ {frame : Frame} {old mid moved new : QuietPass} {change : Option Change
         (finding_at UnmatchedAck frame.number frame.stream frame.side (pos 0)))
         (ap (λ (c : Option Change). is_none c) (sym own.brings) ∙ none-taken frame (taken state.in_force frame))
 
-    told : IsChangeSaid state.in_force.initial (change_alone frame change) are-kept old.streams moved.streams before
-        after
+    told : IsChangeSaid state.in_force.initial (change_alone frame change) (λ streams. AreKept streams old.streams)
+        (λ streams. AreKept streams moved.streams) before after
     told =
-        subst (λ (i : Sides ℕ).
-        IsChangeSaid i (change_alone frame change) are-kept old.streams moved.streams before after)
-        (mi ∙ stands.initial)
-        (subst (λ (k : Streams).
-        IsChangeSaid mid.initial (change_alone frame change) are-kept k moved.streams before after) ms m.streams)
+        subst (λ (i : Sides ℕ). IsChangeSaid i (change_alone frame change) (λ streams. AreKept streams old.streams)
+        (λ streams. AreKept streams moved.streams) before after) (mi ∙ stands.initial)
+        (subst (λ (k : AllStreams). IsChangeSaid mid.initial (change_alone frame change)
+        (λ streams. AreKept streams k) (λ streams. AreKept streams moved.streams) before after) ms m.streams)
 
     said-is : (s : ℕ) → said_of state frame s
         ≡ stream_said s state.in_force.initial (state.streams s) (change_alone frame change)
@@ -102,9 +103,9 @@ module _ {frame : Frame} {old mid moved new : QuietPass} {change : Option Change
 
     all-said : AreAllSaid state frame told.some
     all-said = record {
-      named = told.named state.streams stands.streams;
-      once = told.once state.streams stands.streams;
-      small = told.small state.streams stands.streams;
+      named = (told.names state.streams stands.streams).named;
+      once = (told.names state.streams stands.streams).once;
+      small = (told.names state.streams stands.streams).small;
       others = λ other above none.
           ap (shown false) (said-is other) ∙ told.others state.streams stands.streams other above none;
     }
@@ -121,9 +122,8 @@ module _ {frame : Frame} {old mid moved new : QuietPass} {change : Option Change
         let heard = spoken-of ml mc spoken in
         said-step stands heard item after told.some all-said range settings shown-is is
         (λ on.
-        let all-kept = (kept on).0 in
-        let keeps = (kept on).1 in
-        let same = (kept on).2 in record {
+        let keeps = (kept on).0 in
+        let same = (kept on).1 in record {
           client = keeps.client
               ∙ last-if _ frame state.previous.client moved.last.client (rw (m.last, ml) stands.client);
           server = keeps.server
@@ -133,8 +133,8 @@ module _ {frame : Frame} {old mid moved new : QuietPass} {change : Option Change
               ∙ ap (λ (c : Option Change). initial_after c state.in_force.initial) (sym own.brings);
           connection = keeps.kept ∙ spoken-next stands heard item;
           streams = rw same
-              (streams-same
+              (kept-same moved.streams
               (λ s. stream_after s state.in_force.initial (state.streams s) (change_alone frame change))
               (λ s. stream_after s state.in_force.initial (state.streams s) (step_of state.in_force frame s))
-              moved.streams (λ s above. sym (after-is s)) (told.met all-kept state.streams stands.streams));
+              (λ s above. sym (after-is s)) (told.met state.streams stands.streams));
         })

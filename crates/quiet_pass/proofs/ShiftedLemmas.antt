@@ -1,5 +1,5 @@
 -- Rows that hold credits less a shift, at a change of the initial windows in force.
-use Rattle.std.proofs.Common.{◌%◌, get_or}
+use Rattle.std.proofs.Common.{◌%◌, get_or, Global, Vec}
 use Rattle.audit_terms.proofs.ShownFindings.{shown-append}
 use Rattle.stream_credit.proofs.QuietSteps.{change_alone, none-shown}
 use Rattle.stream_credit.proofs.Words.{◌≡◌, ℕ, ℤ, ◌+◌, ◌<◌, ◌≤◌, false, List, [], ◌∷◌, ◌++◌, None, Option, Some, refl}
@@ -8,13 +8,13 @@ use Rattle.stream_credit.proofs.Words.{◌∙◌, subst, arith, ints, append_ass
 use Rattle.stream_credit.proofs.Words.{Client, Finding, Server, Side, Sides, Step, Stream, credit_after_change}
 use Rattle.stream_credit.proofs.Words.{flat_map, initial_after, new_initial, option_map, shown, side_of}
 use Rattle.stream_credit.proofs.Words.{same_Some, stream_after, stream_said, window_after}
-use Rattle.stream_credit.proofs.Words.{AllByRecursion, Bool, cases_Bool, cases_eq, inl, inr, length, true, ◌==◌}
+use Rattle.stream_credit.proofs.Words.{cases_Bool, cases_eq, inl, inr, length, ◌==◌}
 use Rattle.stream_credit.proofs.Words.{if◌then◌else◌}
 use Rattle.quiet_pass.proofs.ChangeLemmas.{said-by}
-use Rattle.quiet_pass.proofs.RowLists.{each-row}
+use Rattle.quiet_pass.proofs.RowLists.{each-row, parity-zip}
 use Rattle.quiet_pass.proofs.StreamLemmas.{rows-of, step-alone}
 use Rattle.quiet_pass.specs.code.HeldStreams.{held, IsEntryMoved}
-use Rattle.quiet_pass.specs.code.Rows.{AreLowered, AreOfParity, AreRisingFrom, IsLowered, IsRowOfParity, entry_in}
+use Rattle.quiet_pass.specs.code.Rows.{AreLowered, AreRisingFrom, IsLowered, entry_in}
 use Rattle.quiet_pass.specs.code.Rows.{shifted_said}
 use Rattle.quiet_pass.specs.code.Shifts.{AreCovered, AreRowsQuiet, IsEntryQuiet, IsShiftMoved, raised, raised_by}
 use Rattle.quiet_pass.specs.code.Shifts.{raised_in}
@@ -164,11 +164,10 @@ base-even kept s p = rw p refl
 
 pub begins-shifted : (shifted : Shifted) (old new : Streams) → old.shifted ≡ None → new.shifted ≡ Some shifted
     → AreLowered shifted.shift old.opened.items new.opened.items
-    → AreLowered shifted.shift old.promised.items new.promised.items → AreOfParity 1 new.opened.items
-    → AreOfParity 0 new.promised.items → AreCovered shifted.opened new.opened.items
+    → AreLowered shifted.shift old.promised.items new.promised.items → AreCovered shifted.opened new.opened.items
     → AreCovered shifted.promised new.promised.items → (streams : ℕ → Stream) → AreStreams streams old
     → AreStreams streams new
-begins-shifted shifted old new none some opened promised odd even one two streams all =
+begins-shifted shifted old new none some opened promised one two streams all =
     let h = rows-of streams old none all in
     let shift = shifted.shift in
     let by : shift_of new ≡ Some shift = ap (option_map (λ (shifted : Shifted). shifted.shift)) some in record {
@@ -178,6 +177,10 @@ begins-shifted shifted old new none some opened promised odd even one two stream
         even = λ s p above. base-even new s p;
         opened = rising-lowered shift 0 old.opened.items new.opened.items opened h.opened;
         promised = rising-lowered shift 0 old.promised.items new.promised.items promised h.promised;
+        opened_odd = parity-zip (IsLowered shift) (λ one two m. m.same) 1 old.opened.items new.opened.items opened
+            h.opened_odd;
+        promised_even = parity-zip (IsLowered shift) (λ one two m. m.same) 0 old.promised.items new.promised.items
+            promised h.promised_even;
       };
       raised = λ s above.
           elim (cases_eq (s % 2) 1) [
@@ -191,15 +194,10 @@ begins-shifted shifted old new none some opened promised odd even one two stream
           ] ∙ ap (λ (by : Option (Sides ℕ)). raised_in by (base-of new s)) (sym by);
       grouped = λ other e.
           subst (λ (shifted : Shifted). AreGroups shifted new) (same_Some shifted other (sym some ∙ e))
-          (record { odd = odd; even = even; opened = one; promised = two });
+          (record { opened = one; promised = two });
     }
 
 -- ---- what a change shows of them
-
-each-of : (P : Row → Type 0) (rows : List Row) → ((at : ℕ) (row : Row) → slice_get rows at ≡ Some row → P row)
-    → AllByRecursion P rows
-each-of P [] each = tt
-each-of P (row ∷ rows) each = (each zero row refl, each-of P rows (λ at one there. each (suc at) one there))
 
 pub shifted-change : (initial : Sides ℕ) (step : Step) → step.frame ≡ None → (one two : Shifted)
     → IsShiftMoved initial (initial_after step.change initial) one.shift two.shift → (old new : Streams)
@@ -211,24 +209,22 @@ pub shifted-change : (initial : Sides ℕ) (step : Step) → step.frame ≡ None
     ≡ shown false mid ++ shown false (flat_map (shifted_said one.shift initial step) old.promised.items))
     → (AreCovered one.opened old.opened.items → AreCovered two.opened old.opened.items)
     → (AreCovered one.promised old.promised.items → AreCovered two.promised old.promised.items)
-    → IsChangeSaid initial step true old new before after
+    → IsChangeSaid initial step (λ streams. AreStreams streams old) (λ streams. AreStreams streams new) before after
 shifted-change initial step alone one two moved old new was now opened promised before mid after odd even keep-odd
     keep-even =
     let from : shift_of old ≡ Some one.shift = ap (option_map (λ (shifted : Shifted). shifted.shift)) was in
     let to : shift_of new ≡ Some two.shift = ap (option_map (λ (shifted : Shifted). shifted.shift)) now in
-    said-by initial step alone (raised one.shift) refl
+    said-by initial step alone (raised one.shift) refl (λ next. AreStreams next new)
     (λ streams h.
     let groups = h.grouped one was in record {
       base = h.base;
       rows = h.rows;
       is = λ s above. h.raised s above ∙ ap (λ (by : Option (Sides ℕ)). raised_in by (h.base s)) from;
-      odd = each-of (IsRowOfParity 1) old.opened.items groups.odd;
-      even = each-of (IsRowOfParity 0) old.promised.items groups.even;
       mid = mid;
       one = odd groups.opened;
       two = even groups.promised;
     })
-    (λ k streams h.
+    (λ streams h.
     let groups = h.grouped one was in record {
       base = h.base;
       rows = record {
@@ -236,6 +232,8 @@ shifted-change initial step alone one two moved old new was now opened promised 
         even = λ s p above. rw promised (h.rows.even s p above);
         opened = rw opened h.rows.opened;
         promised = rw promised h.rows.promised;
+        opened_odd = rw opened h.rows.opened_odd;
+        promised_even = rw promised h.rows.promised_even;
       };
       raised = λ s above.
           ap (λ (entry : Stream). stream_after s initial entry step)
@@ -245,25 +243,21 @@ shifted-change initial step alone one two moved old new was now opened promised 
       grouped = λ other e.
           subst (λ (shifted : Shifted). AreGroups shifted new) (same_Some two other (sym now ∙ e))
           (record {
-            odd = rw opened groups.odd;
-            even = rw promised groups.even;
             opened = rw opened (keep-odd groups.opened);
             promised = rw promised (keep-even groups.promised);
           });
     })
 
 -- what was said of rows that hold the same streams as others was said of those
-pub said-from : {initial : Sides ℕ} {step : Step} {kept : Bool} {old mid new : Streams} {before after : List Finding}
-    → ((streams : ℕ → Stream) → AreStreams streams old → AreStreams streams mid)
-    → IsChangeSaid initial step kept mid new before after → IsChangeSaid initial step kept old new before after
+pub said-from : {initial : Sides ℕ} {step : Step} {Was Mid Kept : (ℕ → Stream) → Type 0} {before after : List Finding}
+    → ((streams : ℕ → Stream) → Was streams → Mid streams) → IsChangeSaid initial step Mid Kept before after
+    → IsChangeSaid initial step Was Kept before after
 said-from same said = record {
   some = said.some;
-  small = λ streams h. said.small streams (same streams h);
+  names = λ streams h. said.names streams (same streams h);
   said = λ streams h. said.said streams (same streams h);
-  named = λ streams h. said.named streams (same streams h);
-  once = λ streams h. said.once streams (same streams h);
   others = λ streams h. said.others streams (same streams h);
-  met = λ k streams h. said.met k streams (same streams h);
+  met = λ streams h. said.met streams (same streams h);
 }
 
 -- ---- what holds of the streams
@@ -271,12 +265,26 @@ said-from same said = record {
 pub shift-by : (kept : Streams) (shifted : Shifted) → kept.shifted ≡ Some shifted → shift_of kept ≡ Some shifted.shift
 shift-by kept shifted is = ap (option_map (λ (shifted : Shifted). shifted.shift)) is
 
-pub raises-by : (kept : Streams) (shifted : Shifted) (low entry : Stream) → kept.shifted ≡ Some shifted
-    → raised shifted.shift low ≡ entry → raised_in (shift_of kept) low ≡ entry
-raises-by kept shifted low entry is raises =
-    ap (λ (by : Option (Sides ℕ)). raised_in by low) (shift-by kept shifted is) ∙ raises
+pub raises-in : {by : Option (Sides ℕ)} {shift : Sides ℕ} → by ≡ Some shift → (low entry : Stream)
+    → raised shift low ≡ entry → raised_in by low ≡ entry
+raises-in is low entry raises = ap (λ (by : Option (Sides ℕ)). raised_in by low) is ∙ raises
 
 pub grouped-by : (kept : Streams) (shifted : Shifted) → kept.shifted ≡ Some shifted → AreGroups shifted kept
     → AreGrouped kept
 grouped-by kept shifted is groups other e =
     subst (λ (shifted : Shifted). AreGroups shifted kept) (same_Some shifted other (sym is ∙ e)) groups
+
+-- ---- where nothing changes
+
+pub same-parts : (old new : Streams) → new.opened ≡ old.opened → new.promised ≡ old.promised
+    → new.shifted ≡ old.shifted → new ≡ old
+same-parts old new opened promised shifted =
+    let made : Vec Row Global → Vec Row Global → Option Shifted → Streams =
+    λ opened promised shifted. record { opened = opened; promised = promised; shifted = shifted } in
+    ap (λ (one : Vec Row Global). made one new.promised new.shifted) opened
+    ∙ ap (λ (one : Vec Row Global). made old.opened one new.shifted) promised
+    ∙ ap (λ (one : Option Shifted). made old.opened old.promised one) shifted
+
+pub put-back : (old : Streams) (shifted now : Shifted) → old.shifted ≡ Some shifted → now ≡ shifted
+    → Some now ≡ old.shifted
+put-back old shifted now was same = ap (λ (one : Shifted). Some one) same ∙ sym was

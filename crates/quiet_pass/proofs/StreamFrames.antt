@@ -135,4 +135,5 @@ idle-met frame unneeded unpromised initial rows rising =
       after = (step-still frame still frame.stream initial entry).after;
       others = λ other differ. refl;
       rising = rising;
+      parity = λ remainder is all. all;
     }

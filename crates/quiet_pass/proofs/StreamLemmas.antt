@@ -5,17 +5,20 @@ use Rattle.stream_credit.proofs.Words.{credit_after_change}
 use Rattle.stream_credit.proofs.Words.{int_lt, option_map, and-false, same_Some, StreamLife, initial_after}
 use Rattle.stream_credit.proofs.Words.{idle_stream, if◌then◌else◌, stream_after}
 use Rattle.stream_credit.proofs.Words.{[], Option, or-false, cases_eq}
-use Rattle.stream_credit.proofs.Words.{eq-eqb, IsQuietMove, and-true}
+use Rattle.stream_credit.proofs.Words.{eq-eqb, eqb-true, cases_Bool, IsQuietMove, and-true, ◌^◌, Body}
+use Rattle.audit_terms.specs.declared.frames.Body.TheVariants.{Headers}
 use Rattle.std.proofs.Common.{◌%◌, ◌≢◌, ap₂}
-use Rattle.audit_terms.specs.Frame.{is_server_promise, promised_in, meets}
+use Rattle.audit_terms.specs.Frame.{is_headers, is_promise, is_server_promise, promised_in, meets}
+use Rattle.audit_terms.specs.Life.{is_opening}
+use Rattle.audit_terms.specs.code.runs.Orderly.{IsInRange}
 use Rattle.stream_credit.proofs.QuietSteps.{change_alone, quiet-changes, stream-quiet, stream-moved}
 use Rattle.quiet_pass.specs.declared.opened_rows.Row.{Row}
 use Rattle.quiet_pass.specs.declared.kept_streams.Streams.{Streams}
-use Rattle.quiet_pass.specs.code.Rows.{entry_in, AreRising, IsMetOn, IsPut}
+use Rattle.quiet_pass.specs.code.Rows.{entry_in, AreOfParity, AreRising, IsMetOn, IsPut}
 use Rattle.quiet_pass.specs.code.Shifts.{raised_in}
 use Rattle.quiet_pass.specs.code.Streams.{AreRowsOf, AreStreams, as_step, IsStep, AreMet, AreMetOn}
 use Rattle.quiet_pass.specs.code.Streams.{ArePut, shift_of}
-use Rattle.quiet_pass.proofs.ShiftLemmas.{none-some}
+use Rattle.quiet_pass.proofs.ShiftLemmas.{both-true, none-some}
 use Rattle.quiet_pass.specs.code.HeldStreams.{IsEntryMoved}
 
 -- ---- a stream that the frame does not meet
@@ -78,6 +81,8 @@ rows-same f g kept same h = record {
   even = λ o p above. sym (same o above) ∙ h.even o p above;
   opened = h.opened;
   promised = h.promised;
+  opened_odd = h.opened_odd;
+  promised_even = h.promised_even;
 }
 
 pub streams-same : (f g : ℕ → Stream) (kept : Streams) → ((o : ℕ) → 0 < o → f o ≡ g o) → AreStreams f kept
@@ -114,7 +119,12 @@ none-kept kept opened promised none = of-rows (λ s. idle_stream) kept none (rec
   even = λ s p above. rw promised refl;
   opened = rw opened tt;
   promised = rw promised tt;
+  opened_odd = rw opened (none-of-parity 1);
+  promised_even = rw promised (none-of-parity 0);
 })
+  where
+    none-of-parity : (remainder : ℕ) → AreOfParity remainder []
+    none-of-parity remainder at row there = cc
 
 -- ---- one stream
 
@@ -140,9 +150,10 @@ all-met : (initial : Sides ℕ) (frame : Frame) (change : Option Change) (stream
     → IsStep s initial (as_step frame change s) (streams s) (entry_in kept.opened.items s))
     → ((s : ℕ) → s % 2 ≡ 0 → 0 < s
     → IsStep s initial (as_step frame change s) (streams s) (entry_in kept.promised.items s))
-    → AreRising kept.opened.items → AreRising kept.promised.items → kept.shifted ≡ None
-    → AreMet initial frame change streams kept
-all-met initial frame change streams kept odd even opened promised none = record {
+    → AreRising kept.opened.items → AreRising kept.promised.items → AreOfParity 1 kept.opened.items
+    → AreOfParity 0 kept.promised.items → kept.shifted ≡ None
+    → AreMet initial frame change streams (λ next. AreStreams next kept)
+all-met initial frame change streams kept odd even opened promised opened-odd promised-even none = record {
   said = λ s above. elim (cases_eq (s % 2) 1) [
     | inl p ↦ (odd s p).said
     | inr p ↦ (even s (omega (arith, p)) above).said
@@ -152,6 +163,8 @@ all-met initial frame change streams kept odd even opened promised none = record
     even = λ s p above. sym (even s p above).after;
     opened = opened;
     promised = promised;
+    opened_odd = opened-odd;
+    promised_even = promised-even;
   });
 }
 
@@ -164,10 +177,12 @@ pub meets-own : (frame : Frame) → is_server_promise frame ≡ false → (s : �
 meets-own frame unpromised s = rw unpromised (or-false (frame.stream == s))
 
 module _ (initial : Sides ℕ) (frame : Frame) (opens : Bool) (old new : Streams) (streams : ℕ → Stream)
-    (h : AreRowsOf streams old) (still : new.shifted ≡ None) (unpromised : is_server_promise frame ≡ false) where
+    (h : AreRowsOf streams old) (still : new.shifted ≡ None) (small : frame.stream < 2 ^ 31)
+    (unpromised : is_server_promise frame ≡ false) where
   pub met-odd : frame.stream % 2 ≡ 1 → (AreRising old.opened.items
       → IsMetOn frame.stream initial frame opens old.opened.items new.opened.items)
-      → new.promised.items ≡ old.promised.items → AreMetOn initial frame opens streams new
+      → new.promised.items ≡ old.promised.items
+      → AreMetOn initial frame opens streams (λ next. AreStreams next new)
   met-odd p met same =
       let m = met h.opened in record {
         opening = rw (h.odd frame.stream p) m.opening;
@@ -177,12 +192,14 @@ module _ (initial : Sides ℕ) (frame : Frame) (opens : Bool) (old new : Streams
             (λ s q above. step-unmet s initial frame new.promised.items (streams s)
             (meets-own frame unpromised s ∙ differ-parity frame.stream s 1 0 p q (λ e. cc))
             (rw same (h.even s q above)))
-            m.rising (rw same h.promised) still;
+            m.rising (rw same h.promised) (m.parity 1 (record { parity = p; small = small }) h.opened_odd)
+            (rw same h.promised_even) still;
       }
 
   pub met-even : frame.stream % 2 ≡ 0 → 0 < frame.stream → (AreRising old.promised.items
       → IsMetOn frame.stream initial frame opens old.promised.items new.promised.items)
-      → new.opened.items ≡ old.opened.items → AreMetOn initial frame opens streams new
+      → new.opened.items ≡ old.opened.items
+      → AreMetOn initial frame opens streams (λ next. AreStreams next new)
   met-even p above met same =
       let m = met h.promised in record {
         opening = rw (h.even frame.stream p above) m.opening;
@@ -191,13 +208,32 @@ module _ (initial : Sides ℕ) (frame : Frame) (opens : Bool) (old new : Streams
             (meets-own frame unpromised s ∙ differ-parity frame.stream s 0 1 p q (λ e. cc)) (rw same (h.odd s q)))
             (λ s q some. step-met frame.stream initial frame opens old.promised.items new.promised.items m s (streams s)
             (h.even s q some) (meets-own frame unpromised s))
-            (rw same h.opened) m.rising still;
+            (rw same h.opened) m.rising (rw same h.opened_odd)
+            (m.parity 0 (record { parity = p; small = small }) h.promised_even) still;
       }
 
 -- ---- a promise of the server on one of the client's streams
 
+unheaded : (body : Body) → is_promise body ≡ true → is_headers body ≡ false
+unheaded Headers e = cc
+unheaded _ e = refl
+
+-- what it opens is even
+opens-even : (s : ℕ) (life : StreamLife) (frame : Frame) → is_server_promise frame ≡ true
+    → is_opening s life frame ≡ true → s % 2 ≡ 0
+opens-even s life frame promised opening = elim (cases_Bool (s % 2 == 0)) [
+  | inl even ↦ eqb-true (s % 2) 0 even
+  | inr uneven ↦
+      let headers : is_headers frame.body ≡ false = unheaded frame.body (both-true _ _ promised).1 in
+      let none : is_opening s life frame ≡ false = simp (headers, uneven, and-false) in absurd (differ none)
+]
+  where
+    differ : is_opening s life frame ≡ false → ⊥
+    differ none = let both : true ≡ false = sym opening ∙ none in cc
+
 module _ (initial : Sides ℕ) (frame : Frame) (old new : Streams) (streams : ℕ → Stream) (h : AreRowsOf streams old)
-    (still : new.shifted ≡ None) (promised : is_server_promise frame ≡ true) (odd : frame.stream % 2 ≡ 1) where
+    (still : new.shifted ≡ None) (range : IsInRange frame) (promised : is_server_promise frame ≡ true)
+    (odd : frame.stream % 2 ≡ 1) where
   unpromised-odd : (s : ℕ) → s % 2 ≡ 1 → meets s frame ≡ (frame.stream == s)
   unpromised-odd s q = let uneven : (s % 2 == 0) ≡ false = rw q refl in simp (uneven, and-false, or-false)
 
@@ -210,17 +246,20 @@ module _ (initial : Sides ℕ) (frame : Frame) (old new : Streams) (streams : �
       → IsMetOn frame.stream initial frame false old.opened.items new.opened.items)
       → (AreRising old.promised.items
       → IsMetOn (promised_in frame.body) initial frame true old.promised.items new.promised.items)
-      → AreMetOn initial frame false streams new
+      → AreMetOn initial frame false streams (λ next. AreStreams next new)
   met-promise met opened =
       let m = met h.opened in
-      let n = opened h.promised in record {
+      let n = opened h.promised in
+      let p = promised_in frame.body in
+      let even = opens-even p (entry_in old.promised.items p).life frame promised n.opening in record {
         opening = rw (h.odd frame.stream odd) m.opening;
         met = all-met initial frame None streams new
             (λ s q. step-met frame.stream initial frame false old.opened.items new.opened.items m s (streams s)
             (h.odd s q) (unpromised-odd s q))
             (λ s q above. step-met (promised_in frame.body) initial frame true old.promised.items new.promised.items n s
             (streams s) (h.even s q above) (promised-even s q))
-            m.rising n.rising still;
+            m.rising n.rising (m.parity 1 (record { parity = odd; small = range.stream }) h.opened_odd)
+            (n.parity 0 (record { parity = even; small = range.promised }) h.promised_even) still;
       }
 
 pub same-sides : (a b : Sides ℕ) → a.client ≡ b.client → a.server ≡ b.server → a ≡ b
@@ -234,15 +273,16 @@ none-met : (frame : Frame) → frame.stream ≡ 0 → is_server_promise frame �
 none-met frame zero unpromised s above =
     meets-own frame unpromised s ∙ ne_eqb frame.stream s (λ e. absurd (omega (arith, zero, above, e)))
 
-pub all-past : (initial : Sides ℕ) (frame : Frame) (change : Option Change) (kept : Streams) (streams : ℕ → Stream)
-    → frame.stream ≡ 0 → is_server_promise frame ≡ false → initial ≡ initial_after change initial
-    → AreStreams streams kept → AreMet initial frame change streams kept
-all-past initial frame change kept streams zero unpromised is h =
+pub all-past : (initial : Sides ℕ) (frame : Frame) (change : Option Change) (Kept : (ℕ → Stream) → Type 0)
+    → ((f g : ℕ → Stream) → ((o : ℕ) → 0 < o → f o ≡ g o) → Kept f → Kept g) → (streams : ℕ → Stream)
+    → frame.stream ≡ 0 → is_server_promise frame ≡ false → initial ≡ initial_after change initial → Kept streams
+    → AreMet initial frame change streams Kept
+all-past initial frame change Kept same streams zero unpromised is h =
     let past = λ (s : ℕ) (above : 0 < s).
     step-moved s initial initial frame change (streams s) (streams s) (unmoved-entry initial (streams s)) is
     (none-met frame zero unpromised s above) in record {
       said = λ s above. (past s above).said;
-      after = streams-same streams (λ s. stream_after s initial (streams s) (as_step frame change s)) kept
+      after = same streams (λ s. stream_after s initial (streams s) (as_step frame change s))
           (λ s above. (past s above).after) h;
     }
 
@@ -264,12 +304,12 @@ module _ (s : ℕ) (entry : Stream) (f g : ℕ → Stream) (own : 0 < s → g s 
       others o above differ ∙ e ∙ ap (λ (rows : List Row). entry_in rows o) (sym same)
 
   -- one of them is put, and the others stay
-  rows-put : (old new : Streams) → AreRowsOf f old
+  rows-put : (old new : Streams) → s < 2 ^ 31 → AreRowsOf f old
       → (s % 2 ≡ 1 → (AreRising old.opened.items → IsPut s entry old.opened.items new.opened.items)
       × (new.promised.items ≡ old.promised.items))
       → (s % 2 ≡ 0 → (AreRising old.promised.items → IsPut s entry old.promised.items new.promised.items)
       × (new.opened.items ≡ old.opened.items)) → AreRowsOf g new
-  rows-put old new h put-odd put-even = elim (cases_eq (s % 2) 1) [
+  rows-put old new small h put-odd put-even = elim (cases_eq (s % 2) 1) [
     | inl odd ↦
         let one = (put-odd odd).0 h.opened in
         let same = (put-odd odd).1 in record {
@@ -278,6 +318,8 @@ module _ (s : ℕ) (entry : Stream) (f g : ℕ → Stream) (own : 0 < s → g s 
               (λ e. absurd (omega (arith, q, odd, e))) (h.even o q above);
           opened = one.rising;
           promised = rw same h.promised;
+          opened_odd = one.parity 1 (record { parity = odd; small = small }) h.opened_odd;
+          promised_even = rw same h.promised_even;
         }
     | inr other ↦
         let even : s % 2 ≡ 0 = omega (arith, other) in
@@ -288,6 +330,8 @@ module _ (s : ℕ) (entry : Stream) (f g : ℕ → Stream) (own : 0 < s → g s 
           even = λ o q above. put-rows old.promised.items new.promised.items one o above (h.even o q above);
           opened = rw same h.opened;
           promised = one.rising;
+          opened_odd = rw same h.opened_odd;
+          promised_even = one.parity 0 (record { parity = even; small = small }) h.promised_even;
         }
   ]
 
@@ -297,8 +341,8 @@ pub streams-put : (s : ℕ) (entry : Stream) (f g : ℕ → Stream) → (0 < s �
     → AreStreams g new
 streams-put s entry f g own others old new h put = record {
   base = base;
-  rows = rows-put s put.low h.base base (λ above. at-own) (λ o above differ. at-other o differ) old new h.rows put.odd
-      put.even;
+  rows = rows-put s put.low h.base base (λ above. at-own) (λ o above differ. at-other o differ) old new put.small h.rows
+      put.odd put.even;
   raised = λ o above. elim (cases_eq o s) [
     | inl same ↦
         subst (λ (n : ℕ). g n ≡ raised_in (shift_of new) (base n)) (sym same)

@@ -3,6 +3,8 @@ pub mod Shifts
 pub mod Rows
 pub mod Connection
 pub mod Streams
+pub mod WholeStreams
+pub mod AllStreams
 pub mod QuietPass
 pub mod QuietConnections
 pub mod FoundConnections

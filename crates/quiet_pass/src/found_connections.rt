@@ -31,8 +31,8 @@ pub struct FoundConnection {
 /// What a connection of HTTP/2 shows, where credits are not shown, if it shows nothing or has no more than so many
 /// frames.
 ///
-/// Its frames are met by a machine that keeps those alone at which something is shown. Where the machine gives up,
-/// there is no answer, and nothing is known.
+/// Its frames are met by a machine that keeps those alone at which something is shown. There is no answer where the two
+/// flows are no HTTP/2, or where it has more frames and shows something.
 pub fn found_connection(
     alloc: Global,
     most_frames: usize,
@@ -60,7 +60,8 @@ pub(crate) fn found_frame_by_frame(
     let mut walk = walk;
     let mut pass = FoundPass::begin(alloc);
     while let Some(frame) = walk.take_next()? {
-        if !pass.meet(alloc, &frame)? || pass.has_found_past(most_frames, &frame) {
+        pass.meet(alloc, &frame)?;
+        if pass.has_found_past(most_frames, &frame) {
             return Ok(None);
         }
     }

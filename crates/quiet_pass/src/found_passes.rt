@@ -1,7 +1,6 @@
 //! The machine that meets a connection's frames one by one, and says what they show.
 
-ghost use Rattle.std.specs.Prelude.{◌≡◌, false, [], ◌∷◌, ◌++◌, List, IfOk, OnOk};
-ghost use Rattle.std.specs.Bool.{OnTrue};
+ghost use Rattle.std.specs.Prelude.{◌≡◌, false, [], ◌∷◌, ◌++◌, List, OnOk};
 ghost use Rattle.audit_terms.specs.declared.frames.Frame.{Frame as FrameTerm};
 ghost use Rattle.audit_terms.specs.code.runs.Orderly.{IsInRange, IsOrderly};
 ghost use Rattle.quiet_pass.specs.code.FoundPass.{HasSaid, IsAdded, IsFoundAfter};
@@ -38,15 +37,15 @@ impl FoundPass {
         }
     }
 
-    /// Meets the next frame, and returns false where it gives up: then it stands for nothing any more.
-    pub(crate) fn meet(&mut self, alloc: Global, frame: &Frame) -> Result<bool, AllocError>
+    /// Meets the next frame.
+    pub(crate) fn meet(&mut self, alloc: Global, frame: &Frame) -> Result<(), AllocError>
         requires { (frames : List FrameTerm) × IsFoundAfter frames self.old
             × IsOrderly (frames ++ frame.now ∷ []) }
-        ensures { IfOk result (λ met. OnTrue met ((frames : List FrameTerm) → IsFoundAfter frames self.old
-            → IsOrderly (frames ++ frame.now ∷ []) → IsFoundAfter (frames ++ frame.now ∷ []) self.new)) }
+        ensures { OnOk result ((frames : List FrameTerm) → IsFoundAfter frames self.old
+            → IsOrderly (frames ++ frame.now ∷ []) → IsFoundAfter (frames ++ frame.now ∷ []) self.new) }
     {
         if self.has_stopped {
-            return Ok(true);
+            return Ok(());
         }
         moves_little(frame);
         if is_of_settings(frame) {
@@ -54,32 +53,31 @@ impl FoundPass {
         }
         let is_quiet = self.pass.step(frame)?;
         if is_quiet {
-            return Ok(true);
+            return Ok(());
         }
-        self.say(alloc, frame)
+        self.say(alloc, frame)?;
+        Ok(())
     }
 
     /// The same of SETTINGS or an acknowledgement, before the audit stopped. What they show is said only where that may
     /// be something, or where windows of streams move.
     #[inline(never)]
-    fn meet_settings(&mut self, alloc: Global, frame: &Frame) -> Result<bool, AllocError>
+    fn meet_settings(&mut self, alloc: Global, frame: &Frame) -> Result<(), AllocError>
         requires range { IsInRange frame.now }
         requires little { MovesLittle frame.now }
         requires unmoved { MovesNoStream frame.now }
         requires room { HasRoomKept self.old.pass }
         requires on { self.old.has_stopped ≡ false }
-        ensures { IfOk result (λ met. OnTrue met ((frames : List FrameTerm) → IsFoundAfter frames self.old
-            → IsOrderly (frames ++ frame.now ∷ []) → IsFoundAfter (frames ++ frame.now ∷ []) self.new)) }
+        ensures { OnOk result ((frames : List FrameTerm) → IsFoundAfter frames self.old
+            → IsOrderly (frames ++ frame.now ∷ []) → IsFoundAfter (frames ++ frame.now ∷ []) self.new) }
     {
         let change = self.pass.pending.meet(frame)?;
         if self.pass.meet_still(frame, &change) {
-            return Ok(true);
+            return Ok(());
         }
-        let Some(said) = self.pass.say_settings(alloc, frame, &change)? else {
-            return Ok(false);
-        };
+        let said = self.pass.say_settings(alloc, frame, &change)?;
         self.add(said, frame)?;
-        Ok(true)
+        Ok(())
     }
 
     /// Was something found, and is this frame past so many?
@@ -91,19 +89,15 @@ impl FoundPass {
     // Measured, in line it made the walk over quiet frames a tenth longer.
     #[cold]
     #[inline(never)]
-    fn say(&mut self, alloc: Global, frame: &Frame) -> Result<bool, AllocError>
+    fn say(&mut self, alloc: Global, frame: &Frame) -> Result<(), AllocError>
         requires range { IsInRange frame.now }
         requires plain { BringsNothing frame.now }
         requires room { HasRoomKept self.old.pass }
-        ensures { IfOk result (λ met. OnTrue met (HasSaid frame.now self.old self.new)) }
+        ensures { OnOk result (HasSaid frame.now self.old self.new) }
     {
-        match self.pass.say(alloc, frame)? {
-            Some(said) => {
-                self.add(said, frame)?;
-                Ok(true)
-            }
-            None => Ok(false),
-        }
+        let said = self.pass.say(alloc, frame)?;
+        self.add(said, frame)?;
+        Ok(())
     }
 
     /// Adds what a frame shows.

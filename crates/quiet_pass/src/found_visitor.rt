@@ -1,6 +1,6 @@
 //! The machine as a visitor of a connection's frames.
 
-ghost use Rattle.std.specs.Prelude.{◌≡◌, [], IfOk, true};
+ghost use Rattle.std.specs.Prelude.{[]};
 ghost use Rattle.h2_frames.specs.code.Connection.{IsEnding};
 ghost use Rattle.quiet_pass.specs.code.FoundFlows.{HaveBeenMet, IsFoundCut};
 ghost use Rattle.tcp_streams.specs.declared.flows.Flow.{Flow};
@@ -15,8 +15,6 @@ use std::alloc::{AllocError, Global};
 #[derive(Drop)]
 pub(crate) struct FoundVisitor {
     pass: FoundPass,
-    /// Did the machine give up? Then it stands for nothing any more.
-    has_given_up: bool,
 }
 
 /// What the two flows of a connection hold, and what is shown of it, where credits are not shown.
@@ -24,8 +22,6 @@ pub(crate) struct FoundVisitor {
 pub enum FoundCut {
     /// HTTP/2, of which this is shown.
     Http2(FoundConnection),
-    /// HTTP/2, of which the machine cannot say what is shown.
-    GivenUp,
     /// The client's bytes do not begin with the connection preface.
     NotHttp2,
     /// The client's bytes end within the connection preface.
@@ -40,11 +36,7 @@ impl FrameVisitor for FoundVisitor {
     ghost after = { HaveBeenMet };
 
     fn take(&mut self, alloc: Global, frame: &Frame) -> Result<(), AllocError> {
-        if self.has_given_up {
-            return Ok(());
-        }
-        let is_met = self.pass.meet(alloc, frame)?;
-        self.has_given_up = !is_met;
+        self.pass.meet(alloc, frame)?;
         Ok(())
     }
 }
@@ -56,7 +48,6 @@ impl FoundVisitor {
     {
         FoundVisitor {
             pass: FoundPass::begin(alloc),
-            has_given_up: false,
         }
     }
 
@@ -67,9 +58,6 @@ impl FoundVisitor {
     {
         match ending {
             Ending::Http2 { count, tails } => {
-                if self.has_given_up {
-                    return FoundCut::GivenUp;
-                }
                 FoundCut::Http2(found_after(self.pass, count, tails))
             }
             Ending::NotHttp2 => FoundCut::NotHttp2,

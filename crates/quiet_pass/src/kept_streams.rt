@@ -1,19 +1,21 @@
-//! All streams of a connection.
+//! All streams of a connection, in rows.
 
-ghost use Rattle.std.specs.Prelude.{◌≡◌, ℕ, ◌<◌, ◌≤◌, ◌-◌, ◌^◌, true, false, [], None, Option, is_some, IfNone, IfOk};
+ghost use Rattle.std.specs.Prelude.{◌≡◌, ℕ, ◌<◌, ◌≤◌, ◌-◌, ◌^◌, true, false, [], None, Option, is_some, IfOk, OnOk};
 ghost use Rattle.std.specs.Bool.{OnTrue, OnFalse};
-ghost use Rattle.std.specs.Option.{ForSome};
 ghost use Rattle.audit_terms.specs.declared.sides.Sides.{Sides as SidesTerm};
 ghost use Rattle.audit_terms.specs.declared.stream_state.Stream.{Stream as StreamTerm};
 ghost use Rattle.audit_terms.specs.code.Room.{WindowHasRoom};
 ghost use Rattle.audit_terms.specs.Frame.{is_server_promise};
+ghost use Rattle.audit_terms.specs.code.runs.Orderly.{IsInRange};
 ghost use Rattle.quiet_pass.specs.code.Rows.{AreRising, IsMetOn};
 ghost use Rattle.quiet_pass.specs.code.Streams.{AreRowsOf, AreStreams, AreMetOn, ArePut, IsChangeSaid, shift_of};
+ghost use Rattle.quiet_pass.specs.code.WholeStreams.{AreListed};
 
-use crate::opened_rows::{Row, entry_of, meet, new_row, open, put_plain, say_all};
+use crate::opened_rows::{Row, copied, entry_of, meet, new_row, open, put_plain, say_all};
 use crate::row_groups::RowGroups;
 use crate::shift_ranges::{lowered, raised_in, shift_after};
 use crate::shifted_rows::{lower_all, put_shifted, say_shifted};
+use crate::whole_streams::{WholeStreams, add_rows};
 use audit_terms::{Finding, Frame, Sides, Step, Stream, initial_after, row_of};
 use std::alloc::{AllocError, Global};
 
@@ -69,10 +71,12 @@ impl Streams {
 
     /// Meets a frame on a stream that is no promise of the server, if the stream has a row or needs none.
     pub(crate) fn meet(&mut self, frame: &Frame) -> Meeting
+        requires range { IsInRange frame.now }
         requires streamed { 0 < frame.now.stream }
         requires unpromised { is_server_promise frame.now ≡ false }
         ensures quiet { result ≡ Meeting.Quiet → (initial : SidesTerm ℕ) (streams : ℕ → StreamTerm)
-            → AreStreams streams self.old → AreMetOn initial frame.now false streams self.new }
+            → AreStreams streams self.old
+            → AreMetOn initial frame.now false streams (λ next. AreStreams next self.new) }
         ensures left { (result ≡ Meeting.Quiet → ⊥) → self.new ≡ self.old }
     {
         if self.shifted.is_some() {
@@ -88,9 +92,11 @@ impl Streams {
     /// Opens the stream of such a frame, one without a row; returns false if the frame does not open it, or may show
     /// something.
     pub(crate) fn open(&mut self, initial: &Sides<u32>, frame: &Frame) -> Result<bool, AllocError>
-        requires { is_server_promise frame.now ≡ false }
+        requires range { IsInRange frame.now }
+        requires unpromised { is_server_promise frame.now ≡ false }
         ensures quiet { IfOk result (λ opened. OnTrue opened ((streams : ℕ → StreamTerm)
-            → AreStreams streams self.old → AreMetOn initial.now frame.now true streams self.new)) }
+            → AreStreams streams self.old
+            → AreMetOn initial.now frame.now true streams (λ next. AreStreams next self.new))) }
         ensures left { IfOk result (λ opened. OnFalse opened (self.new ≡ self.old)) }
     {
         if self.shifted.is_some() || frame.stream % 2 == 0 {
@@ -132,9 +138,11 @@ impl Streams {
         }
     }
 
-    /// Says what a stream is now, and returns false if no row can say so.
+    /// Says what a stream is now, and returns false if no row can say so: then all stays.
     pub(crate) fn put(&mut self, stream: u32, entry: &Stream) -> Result<bool, AllocError>
-        ensures { IfOk result (λ done. OnTrue done (ArePut stream entry.now self.old self.new)) }
+        requires { stream < 2 ^ 31 }
+        ensures put { IfOk result (λ done. OnTrue done (ArePut stream entry.now self.old self.new)) }
+        ensures left { IfOk result (λ done. OnFalse done (self.new ≡ self.old)) }
     {
         if self.shifted.is_some() {
             return self.put_shifted(stream, entry);
@@ -148,20 +156,25 @@ impl Streams {
 
     /// The same, where rows hold credits less a shift: what is known of the groups of its row is forgotten.
     fn put_shifted(&mut self, stream: u32, entry: &Stream) -> Result<bool, AllocError>
-        ensures { IfOk result (λ done. OnTrue done (ArePut stream entry.now self.old self.new)) }
+        requires { stream < 2 ^ 31 }
+        ensures put { IfOk result (λ done. OnTrue done (ArePut stream entry.now self.old self.new)) }
+        ensures left { IfOk result (λ done. OnFalse done (self.new ≡ self.old)) }
     {
+        let Some(shift) = self.shift() else {
+            return Ok(false);
+        };
+        let Some(low) = lowered(entry, &shift) else {
+            return Ok(false);
+        };
         let Some(mut shifted) = self.shifted.take() else {
             return Ok(false);
         };
-        let Some(low) = lowered(entry, &shifted.shift) else {
-            return Ok(false);
-        };
         if stream % 2 == 1 {
-            let is_put = put_shifted(&mut self.opened, &mut shifted.opened, 1, stream, &low)?;
+            let is_put = put_shifted(&mut self.opened, &mut shifted.opened, stream, &low)?;
             self.shifted = Some(shifted);
             return Ok(is_put);
         }
-        let is_put = put_shifted(&mut self.promised, &mut shifted.promised, 0, stream, &low)?;
+        let is_put = put_shifted(&mut self.promised, &mut shifted.promised, stream, &low)?;
         self.shifted = Some(shifted);
         Ok(is_put)
     }
@@ -173,9 +186,10 @@ impl Streams {
         initial: &Sides<u32>,
         frame: &Frame,
     ) -> Result<bool, AllocError>
-        requires { is_server_promise frame.now ≡ true }
+        requires range { IsInRange frame.now }
+        requires promised { is_server_promise frame.now ≡ true }
         ensures quiet { IfOk result (λ quiet. OnTrue quiet ((streams : ℕ → StreamTerm) → AreStreams streams self.old
-            → AreMetOn initial.now frame.now false streams self.new)) }
+            → AreMetOn initial.now frame.now false streams (λ next. AreStreams next self.new))) }
         ensures left { IfOk result (λ quiet. OnFalse quiet (self.new ≡ self.old)) }
     {
         if self.shifted.is_some() {
@@ -200,36 +214,43 @@ impl Streams {
         self.opened.len().saturating_add(self.promised.len())
     }
 
-    /// Meets a step without a frame, and adds what it shows of all streams; returns whether rows can say all streams
-    /// then. Nothing, if the rows are not those of a connection.
+    /// Meets a step without a frame, and adds what it shows of all streams; returns false if rows cannot hold all
+    /// streams after it: then all stays.
     pub(crate) fn say_change(
         &mut self,
+        alloc: Global,
         found: &mut Vec<Finding>,
         initial: &Sides<u32>,
         step: &Step,
-    ) -> Result<Option<bool>, AllocError>
+    ) -> Result<bool, AllocError>
         requires alone { step.now.frame ≡ None }
         requires numbered { step.now.number ≤ 2 ^ 28 - 2 }
-        ensures { IfOk result (λ said. ForSome said (λ kept. IsChangeSaid initial.now step.now kept self.old self.new
+        requires kept { (streams : ℕ → StreamTerm) × AreStreams streams self.old }
+        ensures said { IfOk result (λ said. OnTrue said (IsChangeSaid initial.now step.now
+            (λ streams. AreStreams streams self.old) (λ streams. AreStreams streams self.new)
             found.old.items found.new.items)) }
+        ensures left { IfOk result (λ said. OnFalse said (self.new ≡ self.old)) }
+        ensures found { IfOk result (λ said. OnFalse said (found.new ≡ found.old)) }
     {
         if self.shifted.is_some() {
-            if !self.say_shifted(found, initial, step)? {
-                return Ok(None);
-            }
-            return Ok(Some(true));
+            return self.say_shifted(found, initial, step);
         }
-        let Some(odd) = say_all(&mut self.opened, 1, found, initial, step)? else {
-            return Ok(None);
-        };
-        let Some(even) = say_all(&mut self.promised, 0, found, initial, step)? else {
-            return Ok(None);
-        };
-        Ok(Some(odd & even))
+        let mut own = Vec::new(alloc);
+        let mut opened = copied(alloc, self.opened.as_slice())?;
+        let odd = say_all(&mut opened, &mut own, initial, step)?;
+        let mut promised = copied(alloc, self.promised.as_slice())?;
+        let even = say_all(&mut promised, &mut own, initial, step)?;
+        if !(odd & even) {
+            return Ok(false);
+        }
+        found.append(&mut own)?;
+        self.opened = opened;
+        self.promised = promised;
+        Ok(true)
     }
 
-    /// The same, where rows hold credits less a shift, and the step moves that alone; returns false where the rows are
-    /// not those of a connection.
+    /// The same, where rows hold credits less a shift, and the step moves that alone; returns false if rows cannot hold
+    /// credits less the next one: then all stays.
     fn say_shifted(
         &mut self,
         found: &mut Vec<Finding>,
@@ -238,19 +259,25 @@ impl Streams {
     ) -> Result<bool, AllocError>
         requires alone { step.now.frame ≡ None }
         requires numbered { step.now.number ≤ 2 ^ 28 - 2 }
-        ensures { IfOk result (λ said. OnTrue said (IsChangeSaid initial.now step.now true self.old self.new
+        requires kept { (streams : ℕ → StreamTerm) × AreStreams streams self.old }
+        ensures said { IfOk result (λ said. OnTrue said (IsChangeSaid initial.now step.now
+            (λ streams. AreStreams streams self.old) (λ streams. AreStreams streams self.new)
             found.old.items found.new.items)) }
+        ensures left { IfOk result (λ said. OnFalse said (self.new ≡ self.old)) }
+        ensures found { IfOk result (λ said. OnFalse said (found.new ≡ found.old)) }
     {
-        let Some(mut shifted) = self.shifted.take() else {
+        let Some(shift) = self.shift() else {
             return Ok(false);
         };
-        let shift = shifted.shift;
         let after = initial_after(&step.change, initial);
         let Some(next) = shift_after(&shift, initial, &after) else {
             return Ok(false);
         };
+        let Some(mut shifted) = self.shifted.take() else {
+            return Ok(false);
+        };
         let odd = self.opened.as_slice();
-        if !say_shifted(
+        say_shifted(
             odd,
             &mut shifted.opened,
             found,
@@ -258,11 +285,9 @@ impl Streams {
             step,
             &shift,
             &next,
-        )? {
-            return Ok(false);
-        }
+        )?;
         let even = self.promised.as_slice();
-        if !say_shifted(
+        say_shifted(
             even,
             &mut shifted.promised,
             found,
@@ -270,37 +295,47 @@ impl Streams {
             step,
             &shift,
             &next,
-        )? {
-            return Ok(false);
-        }
+        )?;
         shifted.shift = next;
         self.shifted = Some(shifted);
         Ok(true)
     }
 
-    /// Brings all rows to hold credits less the initial windows in force, so that changes move no row; returns false if
-    /// a row cannot.
-    pub(crate) fn shift_by(
-        &mut self,
-        alloc: Global,
-        initial: &Sides<u32>,
-    ) -> Result<bool, AllocError>
-        requires { is_some self.old.shifted ≡ false }
-        ensures { IfOk result (λ done. OnTrue done ((streams : ℕ → StreamTerm) → AreStreams streams self.old
-            → AreStreams streams self.new)) }
+    /// All of them in full.
+    pub(crate) fn whole(&self, alloc: Global) -> Result<WholeStreams, AllocError>
+        ensures { IfOk result (λ whole. (streams : ℕ → StreamTerm) → AreStreams streams self.now
+            → AreListed streams whole.list.items) }
     {
-        let Some(opened) = lower_all(alloc, &mut self.opened, 1, initial)? else {
-            return Ok(false);
+        let shift = self.shift();
+        let mut list = Vec::with_capacity(alloc, self.count())?;
+        add_rows(&mut list, self.opened.as_slice(), &shift)?;
+        add_rows(&mut list, self.promised.as_slice(), &shift)?;
+        Ok(WholeStreams { list })
+    }
+
+    /// Brings all rows to hold credits less the initial windows in force, so that changes move no row. Where a row
+    /// cannot, they stay, which costs time alone.
+    pub(crate) fn shift_by(&mut self, alloc: Global, initial: &Sides<u32>) -> Result<(), AllocError>
+        requires { is_some self.old.shifted ≡ false }
+        ensures { OnOk result ((streams : ℕ → StreamTerm) → AreStreams streams self.old
+            → AreStreams streams self.new) }
+    {
+        let mut odd = copied(alloc, self.opened.as_slice())?;
+        let Some(opened) = lower_all(alloc, &mut odd, initial)? else {
+            return Ok(());
         };
-        let Some(promised) = lower_all(alloc, &mut self.promised, 0, initial)? else {
-            return Ok(false);
+        let mut even = copied(alloc, self.promised.as_slice())?;
+        let Some(promised) = lower_all(alloc, &mut even, initial)? else {
+            return Ok(());
         };
+        self.opened = odd;
+        self.promised = even;
         self.shifted = Some(Shifted {
             shift: *initial,
             opened,
             promised,
         });
-        Ok(true)
+        Ok(())
     }
 }
 

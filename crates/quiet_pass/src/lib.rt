@@ -11,9 +11,11 @@
 //! - At others it takes the connection and the streams that meet the frame as they stand, has `fault_rules` say what
 //!   the frame shows, and puts them back, whatever credit is left, and whether or not the streams are opened. So it
 //!   does with all streams at a change of the initial windows. Past a connection error nothing more is met, only
-//!   counted. `found_connection` gives up past the number of frames that a caller allows, and `quiet_connection` at the
-//!   first finding. Both also would at credits of streams below -2^31, for which no capture has the bytes, and at
-//!   streams opened out of order, before which the audit of a capture stops.
+//!   counted. `found_connection` ends past the number of frames that a caller allows, if something was found, and
+//!   `quiet_connection` at the first finding: for no other reason there is no answer of two flows of HTTP/2.
+//! - A row holds no credit of -(2^31 - 1) or below, for which no capture has the bytes, and no stream that is opened
+//!   out of order, before which the audit of a capture stops. From the first stream on that no row holds, all stand in
+//!   full in a plain list (`whole_streams`), and no frame is met quietly. Before that, what fails leaves all as it was.
 //! - [`ConnectionFindings`] does this while segments come: the machine visits the frames that `h2_frames` hands on, and
 //!   keeps of a connection what it and that stage keep. At the end it answers what `found_connection` does of the flows
 //!   that these segments have, with its contract (`IsFoundOf`), and where the flows end. It is a
@@ -38,20 +40,19 @@
 //! - One rule updates a row for frames of all types, ends and resets too. While rows are shifted, `fault_rules` says
 //!   what frames on streams show, quiet ones too.
 //! - Frames take no memory, but for a new stream, SETTINGS and what is shown. No sum wraps, and nothing is asked of the
-//!   caller: credits are counted in 64 bits, and as frames are in order there are fewer than 2^28, of which each moves a
-//!   credit by 2^32 at most (`MovesLittle`, `HasRoomLeft`).
+//!   caller: credits are counted in 64 bits, and as frames are in order there are fewer than 2^28, of which each moves
+//!   a credit by 2^32 at most (`MovesLittle`, `HasRoomLeft`).
 //! - Refused by the prover: content of a reset stream that the connection does not count (5.1); exchanged tails; an
 //!   audit that stops only if all findings of a frame end it; frames on a stalled stream that show nothing; a promise
-//!   that shows nothing of the promised stream; a change that leaves the promised streams as they are; a first frame
-//!   that a stage does not meet; findings of a machine that gave up.
-//! - Tested, in `threads_test.py`: that connections of which nothing is shown go through no round, so that it does not
-//!   give up there, and that `found_connection` tells a connection error without one. By whole reports: that both
-//!   succeed where there is memory. In `crate_tests`, over segments in disorder: that neither `found_connection` nor a
-//!   stage of [`ConnectionFindings`] gives up on frames of random connections, and that they tell the same.
-//! - Not proved: that the machine does not give up; where it does, the rounds say what is shown. Only measured: how
-//!   long changes take.
+//!   that shows nothing of the promised stream; a first frame that a stage does not meet; frames that show nothing
+//!   where streams stand in full.
+//! - Tested, in `threads_test.py`: that connections of which nothing is shown go through no round, and that
+//!   `found_connection` tells a connection error without one. By whole reports: that both succeed where there is
+//!   memory. In `crate_tests`, over segments in disorder: that `found_connection` and a stage of [`ConnectionFindings`]
+//!   tell the same of random connections. Only measured: how long changes take.
 #![tactic(auto)]
 
+mod all_streams;
 mod connection_findings;
 mod found_connections;
 mod found_passes;
@@ -68,6 +69,7 @@ mod said_frames;
 mod said_settings;
 mod shift_ranges;
 mod shifted_rows;
+mod whole_streams;
 
 pub use connection_findings::{ConnectionFindings, FoundFlows, found_of_each};
 pub use found_connections::{FoundConnection, found_connection};

@@ -1,6 +1,6 @@
 //! A row for each stream that was opened, in the order of identifiers, which is that of openings (RFC 9113, 5.1.1).
 
-ghost use Rattle.std.specs.Prelude.{◌≡◌, ◌<◌, ◌≤◌, ◌-◌, ◌^◌, ℕ, true, false, [], ◌∷◌, ◌++◌, None, IfOk};
+ghost use Rattle.std.specs.Prelude.{◌≡◌, ◌<◌, ◌≤◌, ◌-◌, ◌^◌, ℕ, true, false, [], ◌∷◌, ◌++◌, None, IfNone, IfOk};
 ghost use Rattle.std.specs.Bool.{OnTrue, OnFalse};
 ghost use Rattle.std.specs.Option.{ForSome};
 ghost use Rattle.audit_terms.specs.Stream.{idle_stream};
@@ -8,14 +8,14 @@ ghost use Rattle.audit_terms.specs.code.Room.{WindowHasRoom};
 ghost use Rattle.audit_terms.specs.declared.sides.Sides.{Sides as SidesTerm};
 ghost use Rattle.quiet_pass.specs.code.Rows.{IsRowOf, IsRowAfter, IsOpened, AreRising, IsMetOn};
 ghost use Rattle.quiet_pass.specs.code.Rows.{AreRowsSaid, IsAboveAll, IsPut, IsPutAt, IsRowMoved};
-ghost use Rattle.quiet_pass.specs.code.Rows.{IsRowOfParity};
+ghost use Rattle.quiet_pass.specs.code.Rows.{AreOfParity};
 ghost use Rattle.quiet_pass.specs.code.Rows.{IsRowSaid, entry_in};
 ghost use Rattle.quiet_pass.specs.code.HeldStreams.{held};
 
 use crate::held_streams::{held, held_after_change, hold, is_low};
 use audit_terms::{Finding, Frame, OfStream, Sides, Step, Stream, initial_after, row_of};
 use fault_rules::say_stream;
-use std::alloc::AllocError;
+use std::alloc::{AllocError, Global};
 use stream_credit::Standings;
 
 /// A stream that is opened, between two frames: 16 bytes.
@@ -112,13 +112,6 @@ impl Row {
         self.standings = standings;
         Ok(true)
     }
-
-    /// Is it of a stream of a connection, whose identifier has this remainder by 2?
-    pub(crate) fn is_of_parity(&self, remainder: u32) -> bool
-        ensures { OnTrue result (IsRowOfParity remainder self.now) }
-    {
-        self.stream % 2 == remainder && self.stream < 1 << 31
-    }
 }
 
 /// The stream of an identifier, by its row; without one it is not opened.
@@ -144,14 +137,15 @@ fn entry_at(rows: &[Row], stream: u32, at: usize) -> Stream
     held(&row.standings)
 }
 
-/// Says in the row of a stream what it is now, and returns where that row stands; nothing, if no row can say so. A
-/// stream past all others gets a new row, if it is opened.
+/// Says in the row of a stream what it is now, and returns where that row stands; nothing, if no row can say so: then
+/// the rows stay. A stream past all others gets a new row, if it is opened.
 pub(crate) fn put(
     rows: &mut Vec<Row>,
     stream: u32,
     entry: &Stream,
 ) -> Result<Option<usize>, AllocError>
-    ensures { IfOk result (λ done. ForSome done (λ at. IsPutAt stream entry.now at rows.old.items rows.new.items)) }
+    ensures put { IfOk result (λ done. ForSome done (λ at. IsPutAt stream entry.now at rows.old.items rows.new.items)) }
+    ensures left { IfOk result (λ done. IfNone done (rows.new ≡ rows.old)) }
 {
     let Some(standings) = hold(entry) else {
         return Ok(None);
@@ -165,8 +159,9 @@ pub(crate) fn put_plain(
     stream: u32,
     entry: &Stream,
 ) -> Result<bool, AllocError>
-    ensures { IfOk result (λ done. OnTrue done (AreRising rows.old.items
+    ensures put { IfOk result (λ done. OnTrue done (AreRising rows.old.items
         → IsPut stream entry.now rows.old.items rows.new.items)) }
+    ensures left { IfOk result (λ done. OnFalse done (rows.new ≡ rows.old)) }
 {
     let Some(_) = put(rows, stream, entry)? else {
         return Ok(false);
@@ -176,8 +171,9 @@ pub(crate) fn put_plain(
 
 /// Puts a row in the place of its stream's, or past all others.
 fn put_row(rows: &mut Vec<Row>, row: Row) -> Result<Option<usize>, AllocError>
-    ensures { IfOk result (λ done. ForSome done (λ at. IsPutAt row.stream (held row.standings) at
+    ensures put { IfOk result (λ done. ForSome done (λ at. IsPutAt row.stream (held row.standings) at
         rows.old.items rows.new.items)) }
+    ensures left { IfOk result (λ done. IfNone done (rows.new ≡ rows.old)) }
 {
     match row_of(rows.as_slice(), row.stream) {
         Some(at) => {
@@ -186,6 +182,15 @@ fn put_row(rows: &mut Vec<Row>, row: Row) -> Result<Option<usize>, AllocError>
         }
         None => put_new(rows, row),
     }
+}
+
+/// Other rows that are the same.
+pub(crate) fn copied(alloc: Global, rows: &[Row]) -> Result<Vec<Row>, AllocError>
+    ensures { IfOk result (λ made. made.items ≡ rows.now) }
+{
+    let mut made = Vec::with_capacity(alloc, rows.len())?;
+    made.extend_from_slice(rows)?;
+    Ok(made)
 }
 
 /// Puts a row in the place of its stream's.
@@ -199,8 +204,9 @@ fn put_at(rows: &mut Vec<Row>, at: usize, row: Row)
 /// Adds the row of a stream that has none, unless it is not opened; nothing, if it is not past all others.
 fn put_new(rows: &mut Vec<Row>, row: Row) -> Result<Option<usize>, AllocError>
     requires { AreRising rows.old.items → entry_in rows.old.items row.stream ≡ idle_stream }
-    ensures { IfOk result (λ done. ForSome done (λ at. IsPutAt row.stream (held row.standings) at
+    ensures put { IfOk result (λ done. ForSome done (λ at. IsPutAt row.stream (held row.standings) at
         rows.old.items rows.new.items)) }
+    ensures left { IfOk result (λ done. IfNone done (rows.new ≡ rows.old)) }
 {
     let at = rows.len();
     if row.is_idle() {
@@ -270,28 +276,25 @@ pub(crate) fn open(
 }
 
 /// Adds what a step without a frame shows of the streams of all rows, and brings the rows past the step; returns
-/// whether rows can say all streams then. Nothing, if one of them is not of this remainder by 2.
+/// whether rows can say all streams then.
 pub(crate) fn say_all(
     rows: &mut Vec<Row>,
-    remainder: u32,
     found: &mut Vec<Finding>,
     before: &Sides<u32>,
     step: &Step,
-) -> Result<Option<bool>, AllocError>
+) -> Result<bool, AllocError>
     requires alone { step.now.frame ≡ None }
     requires numbered { step.now.number ≤ 2 ^ 28 - 2 }
-    ensures { IfOk result (λ said. ForSome said (λ kept. AreRowsSaid remainder before.now step.now kept
-        rows.old.items rows.new.items found.old.items found.new.items)) }
+    requires own { (remainder : ℕ) × AreOfParity remainder rows.old.items }
+    ensures { IfOk result (λ kept. AreRowsSaid before.now step.now kept rows.old.items rows.new.items
+        found.old.items found.new.items) }
 {
     let mut are_kept = true;
     for at in 0..rows.len() {
         let mut row = rows[at];
-        if !row.is_of_parity(remainder) {
-            return Ok(None);
-        }
         let is_kept = row.say_change(found, before, step)?;
         are_kept = are_kept & is_kept;
         rows[at] = row;
     }
-    Ok(Some(are_kept))
+    Ok(are_kept)
 }

@@ -7,11 +7,13 @@ ghost use Rattle.audit_terms.specs.Pass.{PassState, pass_start};
 ghost use Rattle.audit_terms.specs.Side.{is_side};
 ghost use Rattle.audit_terms.specs.Frame.{is_ack, is_server_promise};
 ghost use Rattle.audit_terms.specs.code.LastFrame.{last_of};
+ghost use Rattle.audit_terms.specs.code.runs.Orderly.{IsInRange};
 ghost use Rattle.quiet_pass.specs.code.QuietPass.{BringsNothing, IsQuietStep, IsRestMet, MovesNoStream};
 ghost use Rattle.quiet_pass.specs.code.QuietPass.{StandsFor};
 
+use crate::all_streams::AllStreams;
 use crate::kept_connection::KeptConnection;
-use crate::kept_streams::{Meeting, Streams};
+use crate::kept_streams::Meeting;
 use crate::quiet_frames::is_followed;
 use audit_terms::{Body, Change, FIRST_WINDOW, Frame, LastFrame, Side, Sides};
 use settings_pair::Pending;
@@ -27,7 +29,7 @@ pub(crate) struct QuietPass {
     /// The initial windows in force, in bytes.
     pub(crate) initial: Sides<u32>,
     pub(crate) connection: KeptConnection,
-    pub(crate) streams: Streams,
+    pub(crate) streams: AllStreams,
     /// How many rows changes have moved.
     pub(crate) moves: u64,
 }
@@ -42,7 +44,7 @@ impl QuietPass {
             pending: Pending::new(alloc),
             initial: Sides::both(FIRST_WINDOW),
             connection: KeptConnection::start(),
-            streams: Streams::new(alloc),
+            streams: AllStreams::new(alloc),
             moves: 0,
         }
     }
@@ -50,6 +52,7 @@ impl QuietPass {
     /// Meets the next frame, one that brings no change: from one state of the pass to the next. Returns false if that
     /// may show something: then the machine is as it was.
     pub(crate) fn step(&mut self, frame: &Frame) -> Result<bool, AllocError>
+        requires range { IsInRange frame.now }
         requires plain { BringsNothing frame.now }
         ensures quiet { IfOk result (λ met. OnTrue met ((state : PassState) → StandsFor self.old state
             → IsQuietStep state frame.now self.new)) }
@@ -67,6 +70,7 @@ impl QuietPass {
 
     /// Meets a frame beside what it shows by itself, and returns false if that may show something.
     fn meet_rest(&mut self, frame: &Frame) -> Result<bool, AllocError>
+        requires range { IsInRange frame.now }
         requires plain { BringsNothing frame.now }
         ensures quiet { IfOk result (λ met. OnTrue met (IsRestMet frame.now self.old self.new)) }
         ensures left { IfOk result (λ met. OnFalse met (self.new ≡ self.old)) }
@@ -79,6 +83,7 @@ impl QuietPass {
 
     /// Meets a frame on a stream, one that brings no change, and returns false if that may show something.
     fn meet_stream(&mut self, frame: &Frame) -> Result<bool, AllocError>
+        requires range { IsInRange frame.now }
         requires streamed { 0 < frame.now.stream }
         requires plain { BringsNothing frame.now }
         ensures quiet { IfOk result (λ met. OnTrue met (IsRestMet frame.now self.old self.new)) }
@@ -103,6 +108,7 @@ impl QuietPass {
     /// Meets a frame on a stream that has no row, but is to have one, and returns false if that may show something.
     // The connection is asked first, so that a refusal leaves the machine as it was.
     fn meet_opening(&mut self, frame: &Frame) -> Result<bool, AllocError>
+        requires range { IsInRange frame.now }
         requires unpromised { is_server_promise frame.now ≡ false }
         requires plain { BringsNothing frame.now }
         ensures quiet { IfOk result (λ met. OnTrue met (IsRestMet frame.now self.old self.new)) }
@@ -121,6 +127,7 @@ impl QuietPass {
 
     /// Meets a promise of the server, on a stream, and returns false if that may show something.
     fn meet_promise(&mut self, frame: &Frame) -> Result<bool, AllocError>
+        requires range { IsInRange frame.now }
         requires promised { is_server_promise frame.now ≡ true }
         requires plain { BringsNothing frame.now }
         ensures quiet { IfOk result (λ met. OnTrue met (IsRestMet frame.now self.old self.new)) }

@@ -28,8 +28,8 @@ pub struct QuietConnection {
 
 /// The number of frames and the tails of a quiet connection of HTTP/2; credits are not shown.
 ///
-/// A machine meets the frames, keeps none of them, and gives up at the first that shows something: where the answer is
-/// `None`, nothing is known. With two `threads` or more, several work on long flows.
+/// A machine meets the frames, keeps none of them, and ends at the first that shows something: there the answer is
+/// `None`, and also where the two flows are no HTTP/2. With two `threads` or more, several work on long flows.
 pub fn quiet_connection<R: Threads>(
     rt: &R,
     alloc: Global,
@@ -134,7 +134,8 @@ fn meet_each(pass: &mut FoundPass, batch: &FrameBatch) -> Result<bool, AllocErro
     let alloc = batch.alloc();
     let mut merge = batch.merge();
     while let Some(frame) = merge.take_next() {
-        if !pass.meet(alloc, &frame)? || pass.has_found_past(0, &frame) {
+        pass.meet(alloc, &frame)?;
+        if pass.has_found_past(0, &frame) {
             return Ok(false);
         }
     }

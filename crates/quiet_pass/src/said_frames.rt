@@ -1,9 +1,7 @@
-//! What a frame shows that is not quiet, where the connection and its streams can be kept after it as before.
+//! What a frame shows that is not quiet, and the connection and its streams after it.
 
 ghost use Rattle.std.specs.Prelude.{◌≡◌, ◌<◌, ◌^◌, false, IfOk, OnOk};
-ghost use Rattle.std.specs.Bool.{OnTrue};
 ghost use Rattle.std.specs.List.{list_any};
-ghost use Rattle.std.specs.Option.{ForSome};
 ghost use Rattle.audit_terms.specs.code.Room.{HaveRoom, WindowHasRoom};
 ghost use Rattle.audit_terms.specs.code.runs.Orderly.{IsInRange};
 ghost use Rattle.audit_terms.specs.Finding.{in_order, shown, stops};
@@ -21,18 +19,13 @@ use std::alloc::{AllocError, Global};
 
 impl QuietPass {
     /// What a frame shows that brings no change, in order: by itself, of the connection, and of its stream and the one
-    /// that it promises. Then the machine is past it, unless the audit stops there. Nothing, where the machine cannot
-    /// stand for the state after it.
-    pub(crate) fn say(
-        &mut self,
-        alloc: Global,
-        frame: &Frame,
-    ) -> Result<Option<Vec<Finding>>, AllocError>
+    /// that it promises. Then the machine is past it, unless the audit stops there.
+    pub(crate) fn say(&mut self, alloc: Global, frame: &Frame) -> Result<Vec<Finding>, AllocError>
         requires range { IsInRange frame.now }
         requires plain { BringsNothing frame.now }
         requires room { HasRoomKept self.old }
-        ensures { IfOk result (λ said. ForSome said (λ found. (state : PassState) → StandsFor self.old state
-            → IsSaidStep state frame.now found.items self.new)) }
+        ensures { IfOk result (λ found. (state : PassState) → StandsFor self.old state
+            → IsSaidStep state frame.now found.items self.new) }
     {
         let mut found = Vec::new(alloc);
         let mut own = self.streams.entry_of(frame.stream);
@@ -43,12 +36,10 @@ impl QuietPass {
         self.say_entry(&mut found, &mut own, frame.stream, frame)?;
         self.say_entry(&mut found, &mut promised, other, frame)?;
         if shows_stop(&mut found)? {
-            return Ok(Some(found));
+            return Ok(found);
         }
-        if !self.keep_after(frame, &connection, &own, &promised)? {
-            return Ok(None);
-        }
-        Ok(Some(found))
+        self.keep_after(alloc, frame, &connection, &own, &promised)?;
+        Ok(found)
     }
 
     /// Adds what a frame shows by itself and of the connection, and gives the connection after it.
@@ -111,23 +102,22 @@ impl QuietPass {
         keep_last(&mut self.last, frame);
     }
 
-    /// Keeps the connection, the frame's stream and the one that it promises as they are after the frame; returns false
-    /// if the streams cannot be kept.
+    /// Keeps the connection, the frame's stream and the one that it promises as they are after the frame.
     fn keep_after(
         &mut self,
+        alloc: Global,
         frame: &Frame,
         connection: &ConnectionState,
         own: &Stream,
         promised: &Stream,
-    ) -> Result<bool, AllocError>
-        ensures { IfOk result (λ kept. OnTrue kept
-            (IsKeptAfter frame.now connection.now own.now promised.now self.old self.new)) }
+    ) -> Result<(), AllocError>
+        requires { IsInRange frame.now }
+        ensures { OnOk result (IsKeptAfter frame.now connection.now own.now promised.now self.old self.new) }
     {
         self.keep_connection(frame, connection);
-        if !self.streams.put(frame.stream, own)? {
-            return Ok(false);
-        }
-        self.streams.put(frame.promised_by(), promised)
+        self.streams.put(alloc, frame.stream, own)?;
+        self.streams.put(alloc, frame.promised_by(), promised)?;
+        Ok(())
     }
 }
 

@@ -1,11 +1,11 @@
 //! What SETTINGS and acknowledgements show, and the machine after them.
 
-ghost use Rattle.std.specs.Prelude.{◌≡◌, ◌≤◌, ◌-◌, ◌^◌, false, IfOk};
+ghost use Rattle.std.specs.Prelude.{◌≡◌, ◌≤◌, ◌-◌, ◌^◌, false, IfOk, OnOk};
 ghost use Rattle.std.specs.Bool.{OnFalse, OnTrue};
-ghost use Rattle.std.specs.Option.{ForSome};
 ghost use Rattle.audit_terms.specs.code.runs.Orderly.{IsInRange};
 ghost use Rattle.audit_terms.specs.Pass.{PassState};
 ghost use Rattle.audit_terms.specs.Frame.{is_server_promise};
+ghost use Rattle.quiet_pass.specs.code.AllStreams.{HoldRoom};
 ghost use Rattle.quiet_pass.specs.code.Connection.{IsConnectionAfter};
 ghost use Rattle.quiet_pass.specs.code.QuietPass.{HasBrought, HasRoomKept, IsQuietStep, MovesNoStream};
 ghost use Rattle.quiet_pass.specs.code.QuietPass.{StandsFor};
@@ -63,34 +63,28 @@ impl QuietPass {
     }
 
     /// What SETTINGS or an acknowledgement show, in order, where its settings have met it, which bring this change or
-    /// none; then the machine is past it, unless the audit stops there. Nothing, where rows cannot say the streams.
+    /// none; then the machine is past it, unless the audit stops there.
     pub(crate) fn say_settings(
         &mut self,
         alloc: Global,
         frame: &Frame,
         change: &Option<Change>,
-    ) -> Result<Option<Vec<Finding>>, AllocError>
+    ) -> Result<Vec<Finding>, AllocError>
         requires range { IsInRange frame.now }
         requires unmoved { MovesNoStream frame.now }
         requires room { HasRoomKept self.old }
-        ensures { IfOk result (λ said. ForSome said (λ found. (before : PassTerm)
-            → HasBrought frame.now change.now before self.old → (state : PassState) → StandsFor before state
-            → IsSaidStep state frame.now found.items self.new)) }
+        ensures { IfOk result (λ found. (before : PassTerm) → HasBrought frame.now change.now before self.old
+            → (state : PassState) → StandsFor before state → IsSaidStep state frame.now found.items self.new) }
     {
         let mut found = Vec::new(alloc);
         say_unmatched(&mut found, frame, change)?;
         let connection = self.say_alone(&mut found, frame, false, change)?;
-        let Some(are_kept) = self.say_change(alloc, &mut found, frame, change)? else {
-            return Ok(None);
-        };
+        self.say_change(alloc, &mut found, frame, change)?;
         if shows_stop(&mut found)? {
-            return Ok(Some(found));
-        }
-        if !are_kept {
-            return Ok(None);
+            return Ok(found);
         }
         self.keep_connection(frame, &connection);
-        Ok(Some(found))
+        Ok(found)
     }
 
     /// Are the initial windows in force the same after a change?
@@ -102,50 +96,48 @@ impl QuietPass {
     }
 
     /// Brings the initial windows of a frame's change into force, and adds what that shows of all streams (RFC 9113,
-    /// 6.9.2); returns whether all can be kept. Nothing, where rows cannot say the streams.
+    /// 6.9.2).
     fn say_change(
         &mut self,
         alloc: Global,
         found: &mut Vec<Finding>,
         frame: &Frame,
         change: &Option<Change>,
-    ) -> Result<Option<bool>, AllocError>
-        requires { frame.now.number ≤ 2 ^ 28 - 2 }
-        ensures { IfOk result (λ said. ForSome said (λ kept. IsBroughtSaying frame.now change.now kept self.old
-            self.new found.old.items found.new.items)) }
+    ) -> Result<(), AllocError>
+        requires numbered { frame.now.number ≤ 2 ^ 28 - 2 }
+        requires room { HoldRoom self.old.streams }
+        ensures { OnOk result (IsBroughtSaying frame.now change.now self.old self.new found.old.items
+            found.new.items) }
     {
         if self.leaves_windows(change) {
-            return Ok(Some(true));
+            return Ok(());
         }
         let after = initial_after(change, &self.initial);
-        if !self.count_moves(alloc, frame)? {
-            return Ok(None);
-        }
+        self.count_moves(alloc, frame)?;
         let step = Step {
             number: frame.number,
             frame: None,
             change: *change,
         };
-        let Some(are_kept) = self.streams.say_change(found, &self.initial, &step)? else {
-            return Ok(None);
-        };
+        self.streams.say_change(alloc, found, &self.initial, &step)?;
         self.initial = after;
-        Ok(Some(are_kept))
+        Ok(())
     }
 
     /// Counts the rows that a change moves. Where those are too many, all rows are brought to hold credits less a
-    /// shift, so that a change moves that alone; returns false if they cannot.
-    fn count_moves(&mut self, alloc: Global, frame: &Frame) -> Result<bool, AllocError>
-        ensures { IfOk result (λ counted. OnTrue counted (HasCountedMoves self.old self.new)) }
+    /// shift, so that a change moves that alone.
+    fn count_moves(&mut self, alloc: Global, frame: &Frame) -> Result<(), AllocError>
+        ensures { OnOk result (HasCountedMoves self.old self.new) }
     {
         if self.streams.are_shifted() {
-            return Ok(true);
+            return Ok(());
         }
         let Some(moves) = self.moves_with(frame) else {
-            return self.streams.shift_by(alloc, &self.initial);
+            self.streams.shift_by(alloc, &self.initial)?;
+            return Ok(());
         };
         self.moves = moves;
-        Ok(true)
+        Ok(())
     }
 
     /// How many rows changes have moved, if a frame moves all of them, and may do so.

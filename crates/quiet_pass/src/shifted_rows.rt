@@ -1,7 +1,7 @@
 //! Rows that hold credits less a shift: what a change shows of them, and how rows begin to hold credits so.
 
-ghost use Rattle.std.specs.Prelude.{◌≡◌, ◌<◌, ◌≤◌, ◌-◌, ◌^◌, ◌%◌, ◌++◌, false, None, IfOk, drop, length};
-ghost use Rattle.std.specs.Bool.{OnTrue};
+ghost use Rattle.std.specs.Prelude.{◌≡◌, ◌<◌, ◌≤◌, ◌-◌, ◌^◌, ◌++◌, ℕ, false, None, IfOk, OnOk, drop, length};
+ghost use Rattle.std.specs.Bool.{OnTrue, OnFalse};
 ghost use Rattle.std.specs.List.{flat_map};
 ghost use Rattle.std.specs.Option.{ForSome};
 ghost use Rattle.audit_terms.specs.Finding.{shown};
@@ -18,12 +18,8 @@ use audit_terms::{Finding, Sides, Step, Stream};
 use fault_rules::say_stream;
 use std::alloc::{AllocError, Global};
 
-/// The streams of a connection have identifiers below this (RFC 9113, 5.1.1).
-const STREAMS: u32 = 1 << 31;
-
 impl Row {
-    /// Adds what a step without a frame shows of the row's stream, where a change moves the shift; returns false where
-    /// the row is none of a connection.
+    /// Adds what a step without a frame shows of the row's stream, where a change moves the shift.
     fn say_shifted(
         &self,
         found: &mut Vec<Finding>,
@@ -31,24 +27,22 @@ impl Row {
         step: &Step,
         shift: &Sides<u32>,
         next: &Sides<u32>,
-    ) -> Result<bool, AllocError>
+    ) -> Result<(), AllocError>
         requires alone { step.now.frame ≡ None }
         requires numbered { step.now.number ≤ 2 ^ 28 - 2 }
+        requires small { self.now.stream < 2 ^ 31 }
         requires moved { IsShiftMoved before.now (initial_after step.now.change before.now) shift.now next.now }
-        ensures { IfOk result (λ said. OnTrue said (shown false found.new.items
-            ≡ shown false found.old.items ++ shown false (shifted_said shift.now before.now step.now self.now))) }
+        ensures { OnOk result (shown false found.new.items
+            ≡ shown false found.old.items ++ shown false (shifted_said shift.now before.now step.now self.now)) }
     {
-        if STREAMS <= self.stream {
-            return Ok(false);
-        }
         let entry = held(&self.standings);
         let quiet = QuietShifts::of(&entry, shift);
         if quiet.have(shift) && quiet.have(next) {
-            return Ok(true);
+            return Ok(());
         }
         let mut entry = raised(&entry, shift);
         say_stream(found, &mut entry, self.stream, before, step)?;
-        Ok(true)
+        Ok(())
     }
 
     /// The row that holds the same stream less a shift, if it can.
@@ -64,8 +58,7 @@ impl Row {
     }
 }
 
-/// Adds what a step without a frame shows of the streams of all rows, where a change moves the shift; returns false
-/// where a row is none of a connection.
+/// Adds what a step without a frame shows of the streams of all rows, where a change moves the shift.
 pub(crate) fn say_shifted(
     rows: &[Row],
     groups: &mut RowGroups,
@@ -74,29 +67,27 @@ pub(crate) fn say_shifted(
     step: &Step,
     shift: &Sides<u32>,
     next: &Sides<u32>,
-) -> Result<bool, AllocError>
+) -> Result<(), AllocError>
     requires alone { step.now.frame ≡ None }
     requires numbered { step.now.number ≤ 2 ^ 28 - 2 }
+    requires own { (remainder : ℕ) × AreOfParity remainder rows.now }
     requires moved { IsShiftMoved before.now (initial_after step.now.change before.now) shift.now next.now }
-    ensures said { IfOk result (λ said. OnTrue said (AreCovered groups.old rows.now → shown false found.new.items
+    ensures said { OnOk result (AreCovered groups.old rows.now → shown false found.new.items
         ≡ shown false found.old.items
-        ++ shown false (flat_map (shifted_said shift.now before.now step.now) rows.now))) }
-    ensures covered { IfOk result (λ _. AreCovered groups.old rows.now → AreCovered groups.new rows.now) }
+        ++ shown false (flat_map (shifted_said shift.now before.now step.now) rows.now)) }
+    ensures covered { OnOk result (AreCovered groups.old rows.now → AreCovered groups.new rows.now) }
 {
     let mut at = 0;
     while at < rows.len() {
         let quiet = groups.quiet_from(at, shift, next);
-        let Some(to) = say_from(rows, at, quiet, found, before, step, shift, next)? else {
-            return Ok(false);
-        };
-        at = to;
+        at = say_from(rows, at, quiet, found, before, step, shift, next)?;
         groups.learn_before(rows, at, next);
     }
-    Ok(true)
+    Ok(())
 }
 
 /// Adds what the step shows of the stream of one row, or passes over so many rows of which it shows nothing, if there
-/// are some; returns the next row, or nothing where the row is none of a connection.
+/// are some; returns the next row.
 fn say_from(
     rows: &[Row],
     at: usize,
@@ -106,46 +97,40 @@ fn say_from(
     step: &Step,
     shift: &Sides<u32>,
     next: &Sides<u32>,
-) -> Result<Option<usize>, AllocError>
+) -> Result<usize, AllocError>
     requires inside { at < length rows.now }
     requires alone { step.now.frame ≡ None }
     requires numbered { step.now.number ≤ 2 ^ 28 - 2 }
+    requires own { (remainder : ℕ) × AreOfParity remainder rows.now }
     requires moved { IsShiftMoved before.now (initial_after step.now.change before.now) shift.now next.now }
-    ensures past { IfOk result (λ said. ForSome said (λ to. (at < to) × (to ≤ length rows.now))) }
-    ensures said { IfOk result (λ said. ForSome said (λ to. AreRowsQuiet shift.now next.now at quiet rows.now
+    ensures past { IfOk result (λ to. (at < to) × (to ≤ length rows.now)) }
+    ensures said { IfOk result (λ to. AreRowsQuiet shift.now next.now at quiet rows.now
         → shown false found.new.items
         ++ shown false (flat_map (shifted_said shift.now before.now step.now) (drop to rows.now))
         ≡ shown false found.old.items
-        ++ shown false (flat_map (shifted_said shift.now before.now step.now) (drop at rows.now)))) }
+        ++ shown false (flat_map (shifted_said shift.now before.now step.now) (drop at rows.now))) }
 {
     if 0 < quiet {
-        return Ok(Some(end_of(at, quiet, rows.len())));
+        return Ok(end_of(at, quiet, rows.len()));
     }
-    if !rows[at].say_shifted(found, before, step, shift, next)? {
-        return Ok(None);
-    }
-    Ok(Some(at + 1))
+    rows[at].say_shifted(found, before, step, shift, next)?;
+    Ok(at + 1)
 }
 
 /// Brings all rows to hold their streams less a shift, and returns groups of them of which nothing is known. Nothing,
-/// if a row cannot hold its stream so, or is not of this remainder by 2.
+/// if a row cannot hold its stream so.
 pub(crate) fn lower_all(
     alloc: Global,
     rows: &mut Vec<Row>,
-    remainder: u32,
     shift: &Sides<u32>,
 ) -> Result<Option<RowGroups>, AllocError>
     ensures lowered { IfOk result (λ made. ForSome made (λ groups.
         AreLowered shift.now rows.old.items rows.new.items)) }
-    ensures own { IfOk result (λ made. ForSome made (λ groups. AreOfParity remainder rows.new.items)) }
     ensures covered { IfOk result (λ made. ForSome made (λ groups. AreCovered groups rows.new.items)) }
 {
     let mut groups = RowGroups::new(alloc);
     for at in 0..rows.len() {
         let row = rows[at];
-        if !row.is_of_parity(remainder) {
-            return Ok(None);
-        }
         let Some(low) = row.lowered(shift) else {
             return Ok(None);
         };
@@ -156,25 +141,20 @@ pub(crate) fn lower_all(
 }
 
 /// Says in the row of a stream what it holds of it now, and forgets what is known of the row's groups; returns false if
-/// no row of this remainder by 2 can hold it.
+/// no row can hold it: then all stays.
 pub(crate) fn put_shifted(
     rows: &mut Vec<Row>,
     groups: &mut RowGroups,
-    remainder: u32,
     stream: u32,
     low: &Stream,
 ) -> Result<bool, AllocError>
-    requires { stream % 2 ≡ remainder }
     ensures put { IfOk result (λ done. OnTrue done (AreRising rows.old.items
         → IsPut stream low.now rows.old.items rows.new.items)) }
-    ensures own { IfOk result (λ done. OnTrue done (AreOfParity remainder rows.old.items
-        → AreOfParity remainder rows.new.items)) }
     ensures covered { IfOk result (λ done. OnTrue done (AreCovered groups.old rows.old.items
         → AreCovered groups.new rows.new.items)) }
+    ensures rows { IfOk result (λ done. OnFalse done (rows.new ≡ rows.old)) }
+    ensures groups { IfOk result (λ done. OnFalse done (groups.new ≡ groups.old)) }
 {
-    if STREAMS <= stream {
-        return Ok(false);
-    }
     let Some(at) = put(rows, stream, low)? else {
         return Ok(false);
     };

@@ -1,10 +1,10 @@
 -- A connection of which something may be shown, while its segments come, and each connection of a capture.
 use Rattle.std.specs.List.{AllZip}
-use Rattle.std.specs.Prelude.{◌≡◌, ℕ, false, List, IsTrue, Some}
+use Rattle.std.specs.Prelude.{ℕ, List, Some}
 use Rattle.audit_terms.specs.declared.frames.Frame.{Frame}
 use Rattle.audit_terms.specs.declared.sides.Side.TheVariants.{Client, Server}
 use Rattle.audit_terms.specs.declared.sides.Sides.{Sides}
-use Rattle.h2_frames.specs.Cut.{IsCut, IsHttp2}
+use Rattle.h2_frames.specs.Cut.{IsCut}
 use Rattle.h2_frames.specs.code.ConnectionFrames.{EndsSo, HasTakenSent}
 use Rattle.h2_frames.specs.declared.cuts.Cut.TheVariants.{NoHandshake as CutNoHandshake, NoPreface as CutNoPreface}
 use Rattle.h2_frames.specs.declared.cuts.Cut.TheVariants.{NotHttp2 as CutNotHttp2}
@@ -21,30 +21,21 @@ use Rattle.quiet_pass.specs.code.FoundPass.{IsFoundAfter}
 use Rattle.quiet_pass.specs.declared.connection_findings.ConnectionFindings.{ConnectionFindings}
 use Rattle.quiet_pass.specs.declared.connection_findings.FoundFlows.{FoundFlows}
 use Rattle.quiet_pass.specs.declared.found_visitor.FoundCut.{FoundCut}
-use Rattle.quiet_pass.specs.declared.found_visitor.FoundCut.TheVariants.{GivenUp, Http2, NoHandshake, NoPreface}
-use Rattle.quiet_pass.specs.declared.found_visitor.FoundCut.TheVariants.{NotHttp2}
+use Rattle.quiet_pass.specs.declared.found_visitor.FoundCut.TheVariants.{Http2, NoHandshake, NoPreface, NotHttp2}
 use Rattle.quiet_pass.specs.declared.found_visitor.FoundVisitor.{FoundVisitor}
 
--- the frames were met, unless the machine gave up
+-- the frames were met
 abbrev pub HaveBeenMet : List Frame → FoundVisitor → Type 0
-HaveBeenMet frames visitor = visitor.has_given_up ≡ false → IsFoundAfter frames visitor.pass
+HaveBeenMet frames visitor = IsFoundAfter frames visitor.pass
 
 -- of a connection that a SYN opened these segments were taken, none of a record above `last`, and the frames of their
 -- flows met
 abbrev pub HasMetSent : (opening : Segment) → List Sent → (last : ℕ) → ConnectionFindings → Type 0
 HasMetSent opening sent last stage = HasTakenSent HaveBeenMet opening sent last stage.frames
 
--- both flows are of HTTP/2
-pub record AreHttp2 (client server : Flow) : Type 0 where
-  pub frames : List Frame
-  pub tails : Sides ℕ
-  pub started : IsTrue server.started
-  pub http2 : IsHttp2 client server frames tails
-
 -- what two flows hold, and what is shown of it, where credits are not shown
 abbrev pub IsFoundCut : (client server : Flow) → FoundCut → Type 0
 IsFoundCut client server (Http2 found) = IsFoundOf client server found
-IsFoundCut client server GivenUp = AreHttp2 client server
 IsFoundCut client server NotHttp2 = IsCut client server CutNotHttp2
 IsFoundCut client server NoPreface = IsCut client server CutNoPreface
 IsFoundCut client server NoHandshake = IsCut client server CutNoHandshake

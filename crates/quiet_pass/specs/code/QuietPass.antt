@@ -17,7 +17,8 @@ use Rattle.stream_credit.specs.code.Standings.{AreQuiet}
 use Rattle.audit_terms.specs.code.LastFrame.{last_of}
 use Rattle.settings_pair.specs.code.Pending.{IsPending, IsBrought}
 use Rattle.quiet_pass.specs.code.Connection.{IsConnectionAfter}
-use Rattle.quiet_pass.specs.code.Streams.{AreStreams, AreMet}
+use Rattle.quiet_pass.specs.code.AllStreams.{AreKept}
+use Rattle.quiet_pass.specs.code.Streams.{AreMet}
 
 -- the machine stands for a state of the pass
 pub record StandsFor (machine : QuietPass) (state : PassState) : Type 0 where
@@ -26,7 +27,7 @@ pub record StandsFor (machine : QuietPass) (state : PassState) : Type 0 where
   pub pending : IsPending state.in_force machine.pending
   pub initial : machine.initial ≡ state.in_force.initial
   pub connection : machine.connection.state ≡ state.connection
-  pub streams : AreStreams state.streams machine.streams
+  pub streams : AreKept state.streams machine.streams
 
 -- the initial window that settings say, if they do, is of 32 bits
 abbrev pub IsInitialSmall : Settings → Type 0
@@ -47,7 +48,7 @@ pub record HasRoomLeft (state : PassState) : Type 0 where
 pub record HasRoomKept (machine : QuietPass) : Type 0 where
   pub state : PassState
   pub connection : machine.connection.state ≡ state.connection
-  pub streams : AreStreams state.streams machine.streams
+  pub streams : AreKept state.streams machine.streams
   pub room : HasRoomLeft state
 
 -- streams other than 0
@@ -79,10 +80,10 @@ pub record IsRestMet (frame : Frame) (old new : QuietPass) : Type 0 where
   pub brought : (now : InForce) → IsPending now old.pending → IsBrought now frame change new.pending
   pub answered : (is_ack frame.body && is_none change) ≡ false
   pub connection : IsConnectionAfter frame opens change old.connection new.connection
-  pub opening : (streams : ℕ → Stream) → AreStreams streams old.streams
+  pub opening : (streams : ℕ → Stream) → AreKept streams old.streams
       → is_opening frame.stream (streams frame.stream).life frame ≡ opens
-  pub streams : (streams : ℕ → Stream) → AreStreams streams old.streams
-      → AreMet old.initial frame change streams new.streams
+  pub streams : (streams : ℕ → Stream) → AreKept streams old.streams
+      → AreMet old.initial frame change streams (λ next. AreKept next new.streams)
   pub initial : new.initial ≡ initial_after change old.initial
   pub last : new.last ≡ old.last
 

@@ -1,5 +1,5 @@
 -- The rows of the streams that were opened. No public clause cites this.
-use Rattle.std.specs.List.{AllByRecursion, flat_map}
+use Rattle.std.specs.List.{AllZip, flat_map}
 use Rattle.std.specs.Prelude.{◌≡◌, ◌≢◌, ℕ, ◌<◌, ◌%◌, ◌^◌, Bool, ◌==◌, true, false, if◌then◌else◌, List, [], ◌∷◌, ◌++◌}
 use Rattle.std.specs.Prelude.{Some, slice_get}
 use Rattle.audit_terms.specs.Finding.{shown}
@@ -35,6 +35,23 @@ abbrev pub IsAboveAll : List Row → (stream : ℕ) → Type 0
 IsAboveAll [] stream = 0 < stream
 IsAboveAll (row ∷ rows) stream = (row.stream < stream) × IsAboveAll rows stream
 
+-- a stream of a connection, odd or even as the remainder is
+pub record IsOfParity (remainder stream : ℕ) : Type 0 where
+  pub parity : stream % 2 ≡ remainder
+  pub small : stream < 2 ^ 31
+
+abbrev pub IsRowOfParity : (remainder : ℕ) → Row → Type 0
+IsRowOfParity remainder row = IsOfParity remainder row.stream
+
+-- the rows are of such streams
+abbrev pub AreOfParity : (remainder : ℕ) → List Row → Type 0
+AreOfParity remainder rows = (at : ℕ) (row : Row) → slice_get rows at ≡ Some row → IsRowOfParity remainder row
+
+-- and stay so with a stream that is one itself
+abbrev pub KeepsParity : (stream : ℕ) → (old new : List Row) → Type 0
+KeepsParity stream old new =
+    (remainder : ℕ) → IsOfParity remainder stream → AreOfParity remainder old → AreOfParity remainder new
+
 -- the row of a stream stands there
 abbrev pub IsRowOf : List Row → (stream at : ℕ) → Type 0
 IsRowOf = IsRowWith (λ row. row.stream)
@@ -59,18 +76,19 @@ pub record IsMetOn (stream : ℕ) (initial : Sides ℕ) (frame : Frame) (opens :
   pub after : entry_in new stream ≡ stream_after stream initial (entry_in old stream) (frame_step frame)
   pub others : (other : ℕ) → other ≢ stream → entry_in new other ≡ entry_in old other
   pub rising : AreRising new
+  pub parity : KeepsParity stream old new
 
 -- this is a stream now, and no other stream changes
 pub record IsPut (stream : ℕ) (entry : Stream) (old new : List Row) : Type 0 where
   pub own : entry_in new stream ≡ entry
   pub others : (other : ℕ) → other ≢ stream → entry_in new other ≡ entry_in old other
   pub rising : AreRising new
+  pub parity : KeepsParity stream old new
 
 -- the same, and where: the rows elsewhere stay as they are
 pub record IsPutAt (stream : ℕ) (entry : Stream) (at : ℕ) (old new : List Row) : Type 0 where
   pub put : AreRising old → IsPut stream entry old new
   pub others : (other : ℕ) → other ≢ at → slice_get new other ≡ slice_get old other
-  pub own : (row : Row) → slice_get new at ≡ Some row → row.stream ≡ stream
 
 -- a row after the initial windows in force go from some to others: nothing is shown of it
 pub record IsRowMoved (before after : Sides ℕ) (old new : Row) : Type 0 where
@@ -103,29 +121,14 @@ pub record IsLowered (shift : Sides ℕ) (old new : Row) : Type 0 where
 
 -- each row
 abbrev pub AreLowered : Sides ℕ → (old new : List Row) → Type 0
-AreLowered shift [] [] = Unit {0}
-AreLowered shift (row ∷ rows) (next ∷ nexts) = IsLowered shift row next × AreLowered shift rows nexts
-AreLowered shift _ _ = ⊥
+AreLowered shift = AllZip (IsLowered shift)
 
 -- each row after a step
 abbrev pub AreStepped : Sides ℕ → Step → (old new : List Row) → Type 0
-AreStepped initial step [] [] = Unit {0}
-AreStepped initial step (row ∷ rows) (next ∷ nexts) =
-    IsRowStepped initial step row next × AreStepped initial step rows nexts
-AreStepped initial step _ _ = ⊥
-
--- the row is of a stream of a connection, odd or even as the remainder is
-pub record IsRowOfParity (remainder : ℕ) (row : Row) : Type 0 where
-  pub parity : row.stream % 2 ≡ remainder
-  pub small : row.stream < 2 ^ 31
-
--- all of them are
-abbrev pub AreOfParity : (remainder : ℕ) → List Row → Type 0
-AreOfParity remainder rows = (at : ℕ) (row : Row) → slice_get rows at ≡ Some row → IsRowOfParity remainder row
+AreStepped initial step = AllZip (IsRowStepped initial step)
 
 -- what a step shows of the streams of rows was added, and each row is as it is after the step, if all could be kept
-pub record AreRowsSaid (remainder : ℕ) (initial : Sides ℕ) (step : Step) (kept : Bool) (old new : List Row)
+pub record AreRowsSaid (initial : Sides ℕ) (step : Step) (kept : Bool) (old new : List Row)
     (before after : List Finding) : Type 0 where
   pub said : shown false after ≡ shown false before ++ shown false (flat_map (row_said initial step) old)
-  pub own : AllByRecursion (IsRowOfParity remainder) old
   pub stepped : kept ≡ true → AreStepped initial step old new

@@ -22,8 +22,9 @@ use Rattle.audit_terms.specs.declared.sides.Sides.{Sides}
 use Rattle.audit_terms.specs.declared.stream_state.Stream.{Stream}
 use Rattle.quiet_pass.specs.code.Connection.{as_item}
 use Rattle.quiet_pass.specs.code.QuietPass.{AreNamed, StandsFor}
-use Rattle.quiet_pass.specs.code.Streams.{ArePut, AreStreams, IsChangeSaid}
-use Rattle.quiet_pass.specs.declared.kept_streams.Streams.{Streams}
+use Rattle.quiet_pass.specs.code.AllStreams.{AreKept, IsKeptNow}
+use Rattle.quiet_pass.specs.code.Streams.{IsChangeSaid}
+use Rattle.quiet_pass.specs.declared.all_streams.AllStreams.{AllStreams}
 use Rattle.quiet_pass.specs.declared.passes.QuietPass.{QuietPass}
 
 -- the change of a frame, or none, by itself
@@ -57,23 +58,23 @@ pub record IsConnectionKept (frame : Frame) (connection : ConnectionState) (old 
 pub record IsKeptAfter (frame : Frame) (connection : ConnectionState) (own promised : Stream) (old new : QuietPass)
     : Type 0 where
   pub rest : IsConnectionKept frame connection old new
-  pub mid : Streams
-  pub one : ArePut frame.stream own old.streams mid
-  pub other : ArePut (promised_by frame) promised mid new.streams
+  pub mid : AllStreams
+  pub one : IsKeptNow frame.stream own old.streams mid
+  pub other : IsKeptNow (promised_by frame) promised mid new.streams
 
--- the initial windows of a change are in force, what that shows was added, and all streams are moved, if all could be
--- kept
-pub record IsBroughtSaying (frame : Frame) (change : Option Change) (kept : Bool) (old new : QuietPass)
+-- the initial windows of a change are in force, what that shows was added, and all streams are moved
+pub record IsBroughtSaying (frame : Frame) (change : Option Change) (old new : QuietPass)
     (before after : List Finding) : Type 0 where
   pub initial : new.initial ≡ initial_after change old.initial
-  pub streams : IsChangeSaid old.initial (change_alone frame change) kept old.streams new.streams before after
+  pub streams : IsChangeSaid old.initial (change_alone frame change) (λ streams. AreKept streams old.streams)
+      (λ streams. AreKept streams new.streams) before after
   pub connection : new.connection ≡ old.connection
   pub last : new.last ≡ old.last
   pub pending : new.pending ≡ old.pending
 
--- rows hold the same streams as before
+-- the same streams are kept as before
 pub record HasCountedMoves (old new : QuietPass) : Type 0 where
-  pub streams : (streams : ℕ → Stream) → AreStreams streams old.streams → AreStreams streams new.streams
+  pub streams : (streams : ℕ → Stream) → AreKept streams old.streams → AreKept streams new.streams
   pub initial : new.initial ≡ old.initial
   pub connection : new.connection ≡ old.connection
   pub last : new.last ≡ old.last

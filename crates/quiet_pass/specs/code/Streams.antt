@@ -1,6 +1,6 @@
 -- All streams, as they are kept in rows. No public clause cites this.
 use Rattle.std.specs.List.{AllByRecursion, IsDistinct, flat_map, list_any}
-use Rattle.std.specs.Prelude.{◌≡◌, ℕ, ◌%◌, ◌<◌, ◌^◌, ◌==◌, Bool, true, false, if◌then◌else◌, List, [], ◌++◌, Option}
+use Rattle.std.specs.Prelude.{◌≡◌, ℕ, ◌%◌, ◌<◌, ◌^◌, ◌==◌, Bool, false, if◌then◌else◌, List, [], ◌++◌, Option}
 use Rattle.std.specs.Prelude.{Some, None, option_map}
 use Rattle.audit_terms.specs.declared.sides.Sides.{Sides}
 use Rattle.audit_terms.specs.declared.findings.Finding.{Finding}
@@ -19,21 +19,21 @@ use Rattle.quiet_pass.specs.code.Rows.{entry_in, AreOfParity, AreRising, IsPut}
 use Rattle.quiet_pass.specs.code.Shifts.{AreCovered, raised_in}
 
 -- the rows are those of the streams: of the odd ones, which the client opens, and of the even ones, which the server
--- promises (RFC 9113, 5.1.1)
+-- promises, with identifiers of 31 bits (RFC 9113, 5.1.1)
 pub record AreRowsOf (streams : ℕ → Stream) (kept : Streams) : Type 0 where
   pub odd : (stream : ℕ) → stream % 2 ≡ 1 → streams stream ≡ entry_in kept.opened.items stream
   pub even : (stream : ℕ) → stream % 2 ≡ 0 → 0 < stream → streams stream ≡ entry_in kept.promised.items stream
   pub opened : AreRising kept.opened.items
   pub promised : AreRising kept.promised.items
+  pub opened_odd : AreOfParity 1 kept.opened.items
+  pub promised_even : AreOfParity 0 kept.promised.items
 
 -- the shift that rows hold credits less than, if they do
 abbrev pub shift_of : Streams → Option (Sides ℕ)
 shift_of kept = option_map (λ (shifted : Shifted). shifted.shift) kept.shifted
 
--- the rows are those of odd and of even streams, and what is known of groups of them holds
+-- what is known of groups of rows holds
 pub record AreGroups (shifted : Shifted) (kept : Streams) : Type 0 where
-  pub odd : AreOfParity 1 kept.opened.items
-  pub even : AreOfParity 0 kept.promised.items
   pub opened : AreCovered shifted.opened kept.opened.items
   pub promised : AreCovered shifted.promised kept.promised.items
 
@@ -61,37 +61,42 @@ pub record IsStep (stream : ℕ) (initial : Sides ℕ) (step : Step) (entry next
   pub said : AreQuiet (stream_said stream initial entry step)
   pub after : next ≡ stream_after stream initial entry step
 
--- the streams after a frame that brings a change, or none: nothing of that is shown
+-- the streams after a frame that brings a change, or none, for which this holds: nothing of that is shown
 pub record AreMet (initial : Sides ℕ) (frame : Frame) (change : Option Change) (streams : ℕ → Stream)
-    (kept : Streams) : Type 0 where
+    (Kept : (ℕ → Stream) → Type 0) : Type 0 where
   pub said : (stream : ℕ) → 0 < stream
       → AreQuiet (stream_said stream initial (streams stream) (as_step frame change stream))
-  pub after : AreStreams (λ stream. stream_after stream initial (streams stream) (as_step frame change stream)) kept
+  pub after : Kept (λ stream. stream_after stream initial (streams stream) (as_step frame change stream))
 
 -- the same of a frame on a stream, which opens it or not
 pub record AreMetOn (initial : Sides ℕ) (frame : Frame) (opens : Bool) (streams : ℕ → Stream)
-    (kept : Streams) : Type 0 where
+    (Kept : (ℕ → Stream) → Type 0) : Type 0 where
   pub opening : is_opening frame.stream (streams frame.stream).life frame ≡ opens
-  pub met : AreMet initial frame None streams kept
+  pub met : AreMet initial frame None streams Kept
+
+-- streams other than 0, each once, with identifiers of a connection
+pub record AreNames (names : List ℕ) : Type 0 where
+  pub named : AllByRecursion (λ stream. 0 < stream) names
+  pub small : AllByRecursion (λ stream. stream < 2 ^ 31) names
+  pub once : IsDistinct ◌==◌ names
 
 -- what a step without a frame shows of some streams was added, it shows nothing of others, and the streams are as they
--- are after the step, if all could be kept
-pub record IsChangeSaid (initial : Sides ℕ) (step : Step) (kept : Bool) (old new : Streams)
+-- are after the step
+pub record IsChangeSaid (initial : Sides ℕ) (step : Step) (Was Kept : (ℕ → Stream) → Type 0)
     (before after : List Finding) : Type 0 where
   pub some : List ℕ
-  pub small : (streams : ℕ → Stream) → AreStreams streams old → AllByRecursion (λ stream. stream < 2 ^ 31) some
-  pub said : (streams : ℕ → Stream) → AreStreams streams old → shown false after ≡ shown false before
+  pub names : (streams : ℕ → Stream) → Was streams → AreNames some
+  pub said : (streams : ℕ → Stream) → Was streams → shown false after ≡ shown false before
       ++ shown false (flat_map (λ stream. stream_said stream initial (streams stream) step) some)
-  pub named : (streams : ℕ → Stream) → AreStreams streams old → AllByRecursion (λ stream. 0 < stream) some
-  pub once : (streams : ℕ → Stream) → AreStreams streams old → IsDistinct ◌==◌ some
-  pub others : (streams : ℕ → Stream) → AreStreams streams old → (other : ℕ) → 0 < other
+  pub others : (streams : ℕ → Stream) → Was streams → (other : ℕ) → 0 < other
       → list_any (λ one. one == other) some ≡ false
       → shown false (stream_said other initial (streams other) step) ≡ []
-  pub met : kept ≡ true → (streams : ℕ → Stream) → AreStreams streams old
-      → AreStreams (λ stream. stream_after stream initial (streams stream) step) new
+  pub met : (streams : ℕ → Stream) → Was streams
+      → Kept (λ stream. stream_after stream initial (streams stream) step)
 
 -- this is a stream now, and no other stream changes: a row holds it, or all of it but the shift
 pub record ArePut (stream : ℕ) (entry : Stream) (old new : Streams) : Type 0 where
+  pub small : stream < 2 ^ 31
   pub low : Stream
   pub raises : raised_in (shift_of old) low ≡ entry
   pub shift : shift_of new ≡ shift_of old

@@ -17,7 +17,7 @@ loop-pass-preserved c = record {
       record {
         frames = met.frames ++ c.in-Some.frame ∷ [];
         taken = taken;
-        found = (rw c.if-not-branch.false at c.in_ok-meet.ensures) met.frames met.found taken.orderly;
+        found = c.in_ok-meet.ensures met.frames met.found taken.orderly;
       };
 }
 

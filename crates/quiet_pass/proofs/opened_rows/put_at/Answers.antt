@@ -1,7 +1,6 @@
-use Rattle.stream_credit.proofs.Words.{ap, same_Some, slice_get_within, sym, ◌∙◌}
-use Rattle.quiet_pass.proofs.GroupLemmas.{set-elsewhere, set-here}
+use Rattle.stream_credit.proofs.Words.{sym}
+use Rattle.quiet_pass.proofs.GroupLemmas.{set-elsewhere}
 use Rattle.quiet_pass.proofs.RowLists.{row-put}
-use Rattle.quiet_pass.specs.declared.opened_rows.Row.{Row}
 use Rattle.quiet_pass.proofs.opened_rows.put_at.Goals as goal
 
 pub returns : goal.returns
@@ -11,8 +10,4 @@ returns c =
     let row = c.args.row in record {
       put = row-put rows row.stream c.args.at row of (sym of.same);
       others = λ other differ. set-elsewhere rows c.args.at other row differ;
-      own = λ one there.
-          ap (λ (row : Row). row.stream)
-          (same_Some one row
-          (sym there ∙ set-here rows c.args.at row (slice_get_within rows c.args.at of.row of.there)));
     }

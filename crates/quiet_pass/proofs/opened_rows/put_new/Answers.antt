@@ -1,29 +1,24 @@
-use Rattle.stream_credit.proofs.Words.{List, [], ◌∷◌, ◌++◌, OnTrue_at, ap, arith, length, refl, same_Some, slice_get}
-use Rattle.stream_credit.proofs.Words.{sym, ◌∙◌, ◌≡◌, ◌≤◌}
-use Rattle.std.proofs.lemmas.Option.{slice_get_past}
-use Rattle.quiet_pass.proofs.GroupLemmas.{push-elsewhere, push-here}
+use Rattle.stream_credit.proofs.Words.{List, OnTrue_at, ap, arith, length, refl, same_Some, slice_get}
+use Rattle.stream_credit.proofs.Words.{sym, ◌∙◌, ◌≡◌}
+use Rattle.quiet_pass.proofs.GroupLemmas.{push-elsewhere}
 use Rattle.quiet_pass.proofs.RowLists.{row-added}
-use Rattle.quiet_pass.proofs.ShiftLemmas.{none-some}
 use Rattle.quiet_pass.specs.declared.opened_rows.Row.{Row}
 use Rattle.quiet_pass.proofs.opened_rows.put_new.Goals as goal
 
-pub returns-then-is_idle : goal.returns-then-is_idle
-returns-then-is_idle c at e =
-    let rows = c.args.rows.now.items in
-    let past : length rows ≤ c.len-at.result = omega (arith, c.len-at.ensures, c.args.rows.now.ok.0) in
+pub returns-then-is_idle-clause-put : goal.returns-then-is_idle-clause-put
+returns-then-is_idle-clause-put c at e =
     rw (← same_Some _ _ e) (record {
       put = λ rising. record {
         own = c.requires rising ∙ sym (OnTrue_at c.if-is_idle.true c.is_idle.ensures);
         others = λ other differ. refl;
         rising = rising;
+        parity = λ remainder is all. all;
       };
       others = λ other differ. refl;
-      own = λ row there.
-          none-some (slice_get rows c.len-at.result) row (slice_get_past rows c.len-at.result past) there;
     })
 
-pub returns : goal.returns
-returns c at e =
+pub returns-clause-put : goal.returns-clause-put
+returns-clause-put c at e =
     let rows = c.args.rows.now.items in
     let row = c.args.row in
     let end : c.len-at.result ≡ length rows = omega (arith, c.len-at.ensures, c.args.rows.now.ok.0) in
@@ -34,9 +29,4 @@ returns c at e =
       others = λ other differ.
           ap (λ (items : List Row). slice_get items other) c.in_ok-push.ensures.items
           ∙ push-elsewhere rows other row (λ same. differ (same ∙ sym end));
-      own = λ one there.
-          ap (λ (row : Row). row.stream)
-          (same_Some one row
-          (sym there ∙ ap (λ (items : List Row). slice_get items c.len-at.result) c.in_ok-push.ensures.items
-          ∙ ap (slice_get (rows ++ row ∷ [])) end ∙ push-here rows row));
     })

@@ -18,5 +18,5 @@ loop-frame-preserved c = record {
       let frame = c.in-Some.frame in
       let upto = upto-next old.0 frame (left_of c.take_next.new.self) (frames ++ frames_of c.args.batch.now)
       c.in-Some.ensures.some old.2 orderly in
-      (old.0 ++ frame ∷ [], (rw c.if-not-branch.false at c.in_ok-meet.ensures) old.0 old.1 upto.1, upto.0);
+      (old.0 ++ frame ∷ [], c.in_ok-meet.ensures old.0 old.1 upto.1, upto.0);
 }

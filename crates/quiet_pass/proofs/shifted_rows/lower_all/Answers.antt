@@ -1,10 +1,8 @@
 use Rattle.stream_credit.proofs.Words.{arith, cases_eq, get_or-set_other, get_or-set_same, get_or_default, inl, inr}
-use Rattle.stream_credit.proofs.Words.{length-set, get_or_from_slice_get, slice_get_within, same_Some, subst, refl, ◌∙◌}
+use Rattle.stream_credit.proofs.Words.{length-set, same_Some, refl, ◌∙◌}
 use Rattle.std.proofs.Common.{◌≡◌, ◌<◌, ◌≤◌, length, get_or}
 use Rattle.quiet_pass.proofs.GroupLemmas.{set-elsewhere}
 use Rattle.quiet_pass.proofs.ShiftedLemmas.{lowered-each}
-use Rattle.quiet_pass.specs.code.Rows.{IsRowOfParity}
-use Rattle.quiet_pass.specs.declared.opened_rows.Row.{Row}
 use Rattle.quiet_pass.proofs.shifted_rows.lower_all.Goals as goal
 
 pub loop-at-init : goal.loop-at-init
@@ -12,7 +10,6 @@ loop-at-init c = record {
   long = refl;
   lowered = λ k d l. absurd (omega (arith, l));
   same = λ k d l. refl;
-  own = λ k d l. absurd (omega (arith, l));
   covered = c.new-groups.ensures c.args.rows.now.items;
 }
 
@@ -37,14 +34,6 @@ loop-at-preserved c =
         | inr apart ↦ rw (get_or-set_other rows at k low d apart) (was.lowered k d (omega (arith, l, apart)))
       ];
       same = λ k d l. get_or-set_other rows at k low d (omega (arith, l)) ∙ was.same k d (omega (arith, l));
-      own = λ k d l. elim (cases_eq k at) [
-        | inl own ↦
-            rw (own, get_or-set_same rows at low d inside) (record {
-              parity = rw made.same c.if-not-is_of_parity.ensures.parity;
-              small = rw made.same c.if-not-is_of_parity.ensures.small;
-            })
-        | inr apart ↦ rw (get_or-set_other rows at k low d apart) (was.own k d (omega (arith, l, apart)))
-      ];
       covered = c.in_ok-forget.ensures rows _ was.covered (λ other differ. set-elsewhere rows at other low differ);
     }
 
@@ -56,18 +45,6 @@ returns-clause-lowered c = λ x e.
     omega (arith, c.loop-at-test.false, c.len-at-end.ensures, c.args.rows.now.ok.0) in
     lowered-each c.args.shift.now old c.loop-at.rows.items all.long
     (λ at d l. all.lowered at d (omega (arith, l, done)))
-
-pub returns-clause-own : goal.returns-clause-own
-returns-clause-own c = λ x e at row there.
-    let all = c.loop-at.invariant in
-    let old = c.args.rows.now.items in
-    let rows = c.loop-at.rows.items in
-    let done : length old ≤ c.loop-at.at =
-    omega (arith, c.loop-at-test.false, c.len-at-end.ensures, c.args.rows.now.ok.0) in
-    let within : at < length rows = slice_get_within rows at row there in
-    let inside : at < c.loop-at.at = omega (arith, within, all.long, done) in
-    subst (λ (one : Row). IsRowOfParity c.args.remainder one) (get_or_from_slice_get rows at row row there)
-    (all.own at row inside)
 
 pub returns-clause-covered : goal.returns-clause-covered
 returns-clause-covered c = λ x e. rw (← same_Some _ _ e) c.loop-at.invariant.covered

@@ -9,17 +9,16 @@ loop-at-init c = record { covered = λ h. h; said = λ h. refl }
 
 pub loop-at-preserved : goal.loop-at-preserved
 loop-at-preserved c =
-    let was = c.loop-at.invariant in
-    let to = c.in-Some.to in record {
+    let was = c.loop-at.invariant in record {
       covered = λ h. c.learn_before.ensures (was.covered h);
       said = λ h.
-          c.in_ok-to.ensures.said to c.in-Some.is (c.quiet_from-quiet.ensures c.args.rows.now (was.covered h))
+          c.in_ok-at.ensures.said (c.quiet_from-quiet.ensures c.args.rows.now (was.covered h))
           ∙ was.said h;
     }
 
 pub loop-at-smaller : goal.loop-at-smaller
 loop-at-smaller c =
-    let past = c.in_ok-to.ensures.past c.in-Some.to c.in-Some.is in omega (arith, past.0, past.1)
+    let past = c.in_ok-at.ensures.past in omega (arith, past.0, past.1)
 
 pub returns-clause-said : goal.returns-clause-said
 returns-clause-said c = λ covered.

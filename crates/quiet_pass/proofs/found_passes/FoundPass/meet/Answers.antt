@@ -10,6 +10,9 @@ meet_settings-requires-clause-range c = orderly-range 0 c.requires.0 c.args.fram
 pub meet_settings-requires-clause-room : goal.meet_settings-requires-clause-room
 meet_settings-requires-clause-room c = found-room c.args.frame.now c.requires.1 c.if-self.false c.requires.2
 
+pub step-requires-clause-range : goal.step-requires-clause-range
+step-requires-clause-range c = orderly-range 0 c.requires.0 c.args.frame.now c.requires.2
+
 pub say-requires-clause-range : goal.say-requires-clause-range
 say-requires-clause-range c = orderly-range 0 c.requires.0 c.args.frame.now c.requires.2
 
@@ -27,5 +30,5 @@ returns-then-is_quiet c = λ frames h orderly.
     (OnTrue_at c.if-is_quiet.true c.in_ok-is_quiet.ensures.quiet _ (h.goes_on c.if-self.false).1) refl refl refl
 
 pub returns : goal.returns
-returns c = said-after c.args.frame.now c.args.self.now _ _ c.say.result c.if-self.false c.moves_little.ensures
-    (OnFalse_at c.if-is_quiet.false c.in_ok-is_quiet.ensures.left) c.say.ensures refl refl
+returns c = said-after c.args.frame.now c.args.self.now _ _ c.if-self.false c.moves_little.ensures
+    (OnFalse_at c.if-is_quiet.false c.in_ok-is_quiet.ensures.left) c.in_ok-say.ensures refl refl

@@ -22,9 +22,9 @@ returns-then-meet_still c = λ frames h orderly.
 pub returns : goal.returns
 returns c = λ frames h orderly.
     let adds = c.in_ok-add.ensures in
-    said-more c.args.frame.now h c.requires.on c.requires.little orderly c.in-Some.said.items
+    said-more c.args.frame.now h c.requires.on c.requires.little orderly c.in_ok-said.said.items
     (rw adds.pass
-    (c.in_ok-said.ensures c.in-Some.said c.in-Some.is c.args.self.now.pass
+    (c.in_ok-said.ensures c.args.self.now.pass
     (rw c.if-meet_still.ensures.left (record {
       brought = c.in_ok-change.ensures;
       last = refl;

@@ -1,7 +1,7 @@
 use Rattle.quiet_pass.proofs.found_visitor.FoundVisitor.found.Goals as goal
 
-pub returns-else-self : goal.returns-else-self
-returns-else-self c = λ client server is.
+pub returns-in-Http2 : goal.returns-in-Http2
+returns-in-Http2 c = λ client server is.
     let (started, has) = rw c.in-Http2.is at is in
     c.found_after.ensures client server has.frames started
-    (record { http2 = has.http2; orderly = has.orderly; counted = has.counted }) (has.visited c.if-self.false)
+    (record { http2 = has.http2; orderly = has.orderly; counted = has.counted }) has.visited

@@ -11,6 +11,6 @@ returns-clause-quiet c =
     let odd : c.args.frame.now.stream % 2 ≡ 1 = omega (arith, c.if-frame-eq0.false) in
     IfOk-weaker c.open.result _ _
     (λ opened h. OnTrue_from opened _ (λ e. λ streams k.
-    met-odd c.args.initial.now c.args.frame.now _ old _ streams (rows-of streams old none k) none c.requires odd
-    (OnTrue_at e h) refl))
+    met-odd c.args.initial.now c.args.frame.now _ old _ streams (rows-of streams old none k) none
+    c.requires.range.stream c.requires.unpromised odd (OnTrue_at e h) refl))
     c.open.ensures.quiet

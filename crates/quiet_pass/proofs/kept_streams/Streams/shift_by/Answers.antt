@@ -1,4 +1,4 @@
-use Rattle.stream_credit.proofs.Words.{refl}
+use Rattle.stream_credit.proofs.Words.{refl, ◌∙◌}
 use Rattle.quiet_pass.proofs.ShiftLemmas.{none-of}
 use Rattle.quiet_pass.proofs.ShiftedLemmas.{begins-shifted}
 use Rattle.quiet_pass.proofs.kept_streams.Streams.shift_by.Goals as goal
@@ -9,8 +9,10 @@ returns c =
     let none = none-of old.shifted c.requires in
     let odd = c.in_ok-opened.ensures in
     let even = c.in_ok-promised.ensures in
+    let was-odd = c.in_ok-odd.ensures ∙ c.as_slice.ensures.value in
+    let was-even = c.in_ok-even.ensures ∙ c.as_slice-2.ensures.value in
     let one = c.in-Some.opened in
     let two = c.in-Some-2.promised in
     begins-shifted (record { shift = c.args.initial.now; opened = one; promised = two }) old _ none refl
-    (odd.lowered one c.in-Some.is) (even.lowered two c.in-Some-2.is) (odd.own one c.in-Some.is)
-    (even.own two c.in-Some-2.is) (odd.covered one c.in-Some.is) (even.covered two c.in-Some-2.is)
+    (rw was-odd at (odd.lowered one c.in-Some.is)) (rw was-even at (even.lowered two c.in-Some-2.is))
+    (odd.covered one c.in-Some.is) (even.covered two c.in-Some-2.is)

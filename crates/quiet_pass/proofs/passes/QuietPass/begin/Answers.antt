@@ -1,5 +1,4 @@
 use Rattle.stream_credit.proofs.Words.{arith}
-use Rattle.quiet_pass.proofs.StreamLemmas.{none-kept}
 use Rattle.quiet_pass.proofs.passes.QuietPass.begin.Goals as goal
 
 pub returns : goal.returns
@@ -9,5 +8,5 @@ returns c = record {
   pending = c.new.ensures;
   initial = grind arith;
   connection = c.start.ensures;
-  streams = none-kept c.new-2.result c.new-2.ensures.opened c.new-2.ensures.promised c.new-2.ensures.shifted;
+  streams = c.new-2.ensures;
 }
