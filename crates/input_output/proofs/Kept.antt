@@ -10,11 +10,11 @@ use Rattle.std.proofs.lemmas.Result.{on_ok_weaker}
 use Rattle.std.proofs.Math.Seq.{take-add}
 use Rattle.std.proofs.lemmas.List.{append-nil, length-drop, length-take, take-take, take_all}
 use Rattle.input_output.specs.code.Front.{StandsInFront}
-use Rattle.input_output.specs.Account.{IsReadToEnd, given, kept}
+use Rattle.input_output.specs.Account.{IsReadToEnd, given, kept, reads}
 use Rattle.input_output.specs.code.Reading.{HasConsumed, HasGrown, HasPassedOver, HasReadOn, HaveAnswered}
 use Rattle.input_output.specs.code.Reading.{IsOpenBelow}
 use Rattle.input_output.specs.code.Reading.{IsReadingFault}
-use Rattle.input_output.specs.code.Reading.{IsSound}
+use Rattle.input_output.specs.code.Reading.{IsSound, StandsForAll}
 use Rattle.input_output.specs.Bytes.{InChunks}
 use Rattle.input_output.specs.Calls.{EndIn, failed, moved}
 use Rattle.input_output.specs.code.Reads.{AreCallsIn, Gives, HasCalled, HasRead, IsGrown, IsStateAfter}
@@ -210,6 +210,41 @@ module _ {R : Type 0} where
     gives-trans left first.source old.source new.source before given is
         (read.bytes, gave_by old.source new.source given read.called),
   )
+
+  -- reads of which nothing is kept, and a walk that was fed what they gave
+  pub record IsLettingGo {W : Type 0} (P : List ℕ → W → Type 0) (left : R → Option (List ℕ))
+      (first now : CaptureReader R) (walk : W) : Type 0 where
+    pub sound : IsSound now
+    pub state : now.state ≡ Open
+    pub kept : now.bytes ≡ first.bytes
+    pub bytes : HasPassedOver left first now
+    pub fed : StandsForAll P now walk
+
+  -- and one more of them, which gave bytes
+  pub let_go_more : {W : Type 0} (P : List ℕ → W → Type 0) (left : R → Option (List ℕ))
+      (first old new : CaptureReader R) (walk next : W) (more : List ℕ) (n : ℕ) → IsLettingGo P left first old walk
+      → 0 < n → new.bytes ≡ old.bytes → length (kept new) + new.passed ≤ 2 ^ 31 → new.passed ≡ old.passed + n
+      → HasRead left old.source new.source more n → IsStateAfter n new.state → AreCallsIn new.state (reads new)
+      → P (given old ++ more) next → IsLettingGo P left first new next
+  let_go_more P left first old new walk next more n on some same limit grown read after calls is =
+      let gave : given new ≡ given old ++ more = gave_by old.source new.source more read.called in
+      let size : length (kept new) ≡ length (kept old) = ap (λ (b : InChunks). length b.kept) same in
+      let room : new.bytes.room ≡ old.bytes.room = ap (λ (b : InChunks). b.room) same in record {
+        sound = record {
+          within = omega (arith, size, room, on.sound.within);
+          limit = limit;
+          well = inl (after.unended some);
+          calls = calls;
+        };
+        state = after.unended some;
+        kept = same ∙ on.kept;
+        bytes = passed_more left first old new more n on.bytes grown read;
+        fed = record {
+          stands = subst (λ bytes. P bytes next) (sym gave) is;
+          counted = omega
+              (arith, on.fed.counted, size, grown, read.count, ap length gave, length-append (given old) more);
+        };
+      }
 
   -- at the end the reads gave all of the reader's bytes, or 2^31 of them
   pub gave_front : (a b : Option (List ℕ)) (reader : CaptureReader R) → Consumes a b (given reader) → IsSound reader

@@ -126,7 +126,7 @@ impl<R> CaptureReader<R> {
     }
 
     /// Enters whether there was memory.
-    fn enter_memory(&mut self, had: Result<(), AllocError>) -> Result<(), ReadFault>
+    pub(crate) fn enter_memory(&mut self, had: Result<(), AllocError>) -> Result<(), ReadFault>
         ensures ok { OnOk result (IsOk had × (self.new ≡ self.old)) }
         ensures err { IfErr result (λ e. IsErr had × (e ≡ ReadFault.OutOfMemory)
             × (self.new ≡ record self.old { state = ReadState.LackedMemory })) }

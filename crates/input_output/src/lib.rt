@@ -7,8 +7,8 @@
 //!   these are the bytes of the list. What the list tells of a capture and of a report is in `specs/Account.antt`.
 //! - A [`FailedRead`] and a [`WriteFault`] are made beside the call that failed, and nowhere else.
 //! - A [`CaptureReader`] keeps what the reads gave, or how much it was. A [`ReportWriter`] writes and flushes.
-//! - [`keep_up_to`] reads and keeps the bytes; [`pass_over`] reads and keeps only their number. Reading stops at 2^31
-//!   bytes ([`LIMIT`]).
+//! - [`keep_up_to`] reads and keeps the bytes; [`pass_over`] reads and keeps only their number, and so does
+//!   [`walk_and_let_go`], which feeds them to a [`FrontWalk`]. Reading stops at 2^31 bytes ([`LIMIT`]).
 //! - Kept bytes lie in chunks of equal length and are read as one list, a [`Capture`]. [`Chunks`] is such a list over
 //!   chunks that lie elsewhere: each has `N` elements, the last may have fewer. Contracts see one list, so a contract
 //!   over it reads like one over a slice. An index is divided by `N` to find its chunk, so `N` is best a power of two.
@@ -20,9 +20,9 @@
 //! - A [`TableHash`] hashes by SipHash with a key drawn at each start; it cannot be made in another way. No answer of a
 //!   table depends on the key, and no contract names it (docs/DECISIONS.md, "Program and repository").
 //! - The prover refuses: a read that reports a full buffer, a reading that is told as failed though each read gave
-//!   bytes, a reading that ends at half of its limit, a range that ends with its first chunk, a call that no list has.
-//!   The compiler refuses a fault that another module makes, and a reading that leaves threads behind, since
-//!   `ChunksAhead` cannot be dropped.
+//!   bytes, a reading that ends at half of its limit, or past 1 GiB where bytes are let go, a range that ends with its
+//!   first chunk, a call that no list has. The compiler refuses a fault that another module makes, and a reading that
+//!   leaves threads behind, since `ChunksAhead` cannot be dropped.
 //! - `crate_tests` tests which calls readers and writers get.
 //! - Trusted: that a file or a pipe gives and keeps its bytes, and that the functions that write the list of calls are
 //!   honest (docs/PROOFS.md, "What is trusted").
@@ -45,7 +45,7 @@ pub use chunks::Chunks;
 pub use chunks_ahead::ChunksAhead;
 pub use fault::ReadFault;
 pub use front::{CAPTURE_CHUNK, Capture, FrontWalk, feed_rest};
-pub use reading::{keep_and_walk, keep_up_to, pass_over};
+pub use reading::{keep_and_walk, keep_up_to, pass_over, walk_and_let_go};
 pub use report_writer::{ReportWriter, WriteFault};
 pub use table_hash::TableHash;
 pub use traced_reader::{FailedRead, TracedReader};

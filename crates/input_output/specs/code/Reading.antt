@@ -3,7 +3,7 @@ use Rattle.std.specs.Prelude.{◌≡◌, ℕ, ◌+◌, ◌^◌, ◌<◌, ◌≤�
 use Rattle.std.specs.Prelude.{IfErr, OnOk, length}
 use Rattle.std.specs.Io.{StartsWith, appended_bytes}
 use Rattle.std.specs.Io.KnownBytes.{IsAtEnd}
-use Rattle.input_output.specs.Account.{HasReadFailed, kept, reads}
+use Rattle.input_output.specs.Account.{HasReadFailed, given, kept, reads}
 use Rattle.input_output.specs.code.Reads.{AreCallsIn, Gives}
 use Rattle.input_output.specs.declared.capture_reader.CaptureReader.{CaptureReader}
 use Rattle.input_output.specs.declared.capture_reader.ReadState.TheVariants.{Open, Ended, LackedMemory}
@@ -65,6 +65,11 @@ module _ {R : Type 0} where
   abbrev pub HasPassedOver : (left : R → Option (List ℕ)) (old new : CaptureReader R) → Type 0
   HasPassedOver left old new = (given : List ℕ) × (new.passed ≡ old.passed + length given)
       × Gives left old.source new.source given
+
+  -- a walk stands for all that the reads gave, each byte of which is kept or was passed over
+  pub record StandsForAll {W : Type 0} (P : List ℕ → W → Type 0) (reader : CaptureReader R) (walk : W) : Type 0 where
+    pub stands : P (given reader) walk
+    pub counted : length (given reader) ≡ length (kept reader) + reader.passed
 
   -- the faults of reading, as the account then shows them: a read that failed, or want of memory
   abbrev pub IsReadingFault : ReadFault → CaptureReader R → Type 0
