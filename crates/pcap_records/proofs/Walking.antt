@@ -119,6 +119,7 @@ HasPassed-more front more rows cursor is =
     record {
       magic = ap format_of header ∙ is.magic;
       unit = is.unit;
+      version = rw header is.version;
       link = is.link ∙ ap (link_of (number_of cursor.format.endian)) (sym header);
       linked = is.linked;
       read = AreRead-more (number_of cursor.format.endian) cursor.format.unit front more rows cursor.at is.read;
@@ -156,6 +157,7 @@ passes front rows old new row moved found passed =
     rw moved (record {
       magic = passed.magic;
       unit = passed.unit;
+      version = passed.version;
       link = passed.link;
       linked = passed.linked;
       read = AreRead-push (number_of old.format.endian) (reads_first old.format.endian) old.format.unit front rows
@@ -171,6 +173,7 @@ header_alone front cursor is at =
     record {
       magic = ap format_of header ∙ is.magic;
       unit = is.unit;
+      version = rw header is.version;
       link = is.link ∙ ap (link_of (number_of cursor.format.endian)) (sym header);
       linked = is.linked;
       read = record {

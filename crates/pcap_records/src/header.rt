@@ -47,6 +47,7 @@ fn late_fault<T: ByteOrder>(header: &[u8], size: usize) -> Option<PcapFault>
     requires { 24 ≤ length header.now }
     ensures fault { result ≡ refusal_in T.number_of header.now size }
     ensures size { IfNone result (size < 2 ^ 31) }
+    ensures version { IfNone result (IsTrue (is_version T.number_of header.now)) }
     ensures linked { IfNone result (IsTrue (is_read (link_of T.number_of header.now))) }
 {
     let link = link_type::<T>(header);
@@ -89,6 +90,7 @@ pub(crate) fn format_or_refusal(header: &[u8], size: usize) -> Result<Format, Pc
     ensures whole { OnOk result (24 ≤ size) }
     ensures short { OnOk result (size < 2 ^ 31) }
     ensures unit { IfOk result (λ format. format.unit ≤ 1000) }
+    ensures version { IfOk result (λ format. IsTrue (is_version (number_of format.endian) header.now)) }
     ensures linked { IfOk result (λ format. IsTrue (is_read (link_of (number_of format.endian) header.now))) }
     ensures refused { IfErr result (λ fault. refusal_of header.now size ≡ Some fault) }
 {

@@ -11,7 +11,8 @@
 //!   captured bytes, then the rest. They share no offset and no loop with the code.
 //! - Both programs use one name for a fault ([`PcapFault::name`], or [`fault_text`] behind a literal).
 //! - The header and the length decide a refusal before any memory is taken, so it is returned whatever memory there is.
-//!   Every other fault is want of memory.
+//!   Every other fault is want of memory. A walk has taken the header, so of a capture that it was fed whole the length
+//!   alone decides ([`RecordWalk::refusal`]), and nobody need have kept its bytes.
 //! - [`format_of_magic`], [`link_in`] and [`captured_length`] read single fields of a header.
 //! - There are fewer than 2^27 records; they ascend in the capture without overlap; their times are below 2^63; the
 //!   link type is one of the two that are read; the capture has fewer than 2^31 bytes. So lengths and offsets fit 31
@@ -22,7 +23,8 @@
 //!   records and change none.
 //! - [`worked_examples`]: the four magics, each refusal at the value that decides, the order of refusals, times in both
 //!   units, cut records, and one that more bytes complete.
-//! - The prover refuses: a walk that begins at the file header, or goes on in the other byte order; a refusal left out.
+//! - The prover refuses: a walk that begins at the file header, or goes on in the other byte order; a refusal left out,
+//!   or told one byte too late.
 //! - `crate_tests` tests how faults print; whole reports test that a walk succeeds where there is memory.
 #![tactic(auto)]
 

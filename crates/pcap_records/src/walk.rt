@@ -1,7 +1,7 @@
 //! A walk over the records of a capture that is still being read.
 
-ghost use Rattle.std.specs.Prelude.{◌≡◌, ◌<◌, ◌≤◌, ◌+◌, ◌++◌, ◌^◌, List, [], ℕ, IfErr, IfOk, OnOk, Some, None};
-ghost use Rattle.std.specs.Prelude.{length, drop, take};
+ghost use Rattle.std.specs.Prelude.{◌≡◌, ◌<◌, ◌≤◌, ◌+◌, ◌++◌, ◌^◌, List, [], ℕ, IfErr, IfNone, IfOk, OnOk, Some};
+ghost use Rattle.std.specs.Prelude.{None, length, drop, take};
 ghost use Rattle.pcap_records.specs.FileHeader.{number_of};
 ghost use Rattle.pcap_records.specs.Record.{BeginsWithRecord};
 ghost use Rattle.pcap_records.specs.Refusal.{refusal};
@@ -10,6 +10,7 @@ ghost use Rattle.pcap_records.specs.code.Walk.{AreAll, HasFed, HasGot, HasTopped
 use crate::cursor::RecordCursor;
 use crate::faults::PcapFault;
 use crate::format::Endian;
+use crate::header::MOST_BYTES;
 use crate::rows::{RECORD_HEADER, captured_length};
 use crate::visitor::RecordVisitor;
 use byteorder::{BigEndian, LittleEndian};
@@ -78,6 +79,19 @@ impl<V: RecordVisitor + Drop> RecordWalk<V> {
         } else {
             Some(count + 1)
         }
+    }
+
+    /// Why a capture is refused, if it is, where the walk was fed all of it: its header was taken, so its length alone
+    /// decides.
+    pub fn refusal(&self) -> Option<PcapFault>
+        requires { (capture : List ℕ) × HasFed V.after capture self.now × (length capture ≤ 2 ^ 31) }
+        ensures is { (capture : List ℕ) → HasFed V.after capture self.now → result ≡ refusal capture }
+        ensures short { (capture : List ℕ) → HasFed V.after capture self.now → IfNone result (length capture < 2 ^ 31) }
+    {
+        if self.fed() > MOST_BYTES {
+            return Some(PcapFault::TooLarge);
+        }
+        None
     }
 
     /// A walk that was fed the file header in front of this cursor.

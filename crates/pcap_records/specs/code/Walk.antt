@@ -2,7 +2,7 @@
 use Rattle.std.specs.Prelude.{◌≡◌, ◌⊎◌, ◌≤◌, ◌<◌, ◌+◌, ◌-◌, ◌*◌, ◌^◌, ℕ, List, ◌++◌, Option, None, Some}
 use Rattle.std.specs.Prelude.{IsTrue, drop, if◌then◌else◌, length, map, min, nat_lt, slice_range, take}
 use Rattle.std.specs.List.{AllByRecursion}
-use Rattle.pcap_records.specs.FileHeader.{ByteOrder, number_of, header_of, format_of, link_of}
+use Rattle.pcap_records.specs.FileHeader.{ByteOrder, number_of, header_of, format_of, is_version, link_of}
 use Rattle.pcap_records.specs.LinkType.{is_read}
 use Rattle.pcap_records.specs.code.Place.{AreTimely, RiseFrom}
 use Rattle.pcap_records.specs.Reading.{IsReading}
@@ -31,6 +31,7 @@ pub record AreRead (number : ByteOrder) (unit : ℕ) (front : List ℕ) (rows : 
 pub record HasPassed (front : List ℕ) (rows : List Record) (cursor : RecordCursor) : Type 0 where
   pub magic : format_of (header_of front) ≡ Some cursor.format
   pub unit : cursor.format.unit ≤ 1000
+  pub version : IsTrue (is_version (number_of cursor.format.endian) (header_of front))
   pub link : cursor.link ≡ link_of (number_of cursor.format.endian) (header_of front)
   pub linked : IsTrue (is_read cursor.link)
   pub read : AreRead (number_of cursor.format.endian) cursor.format.unit front rows cursor.at
