@@ -173,17 +173,17 @@ module _ {V : Type 0} (after : List Handed → V → Type 0) where
       }
 
   -- a walk that was fed a whole capture has handed on all of its packets
-  pub has_met : Global → (capture : List ℕ) (walk : PacketWalk V) (cut : Option ℕ) → (is : HasMade after capture walk)
+  pub has_met : (capture : List ℕ) (walk : PacketWalk V) (cut : Option ℕ) → (is : HasMade after capture walk)
       → length capture < 2 ^ 31
       → AreAll (HasDecoded after) walk.records walk.records.visitor.count cut
       → HasMet after capture walk.records.visitor.visitor cut
-  has_met alloc capture walk cut is short reading =
+  has_met capture walk cut is short reading =
       let stage = is.at.visited in
       let link = walk.records.cursor.link in
       let read = is.at.passed.read in
       let rows = rows_of is.at.seen in
       let few : length rows < 2 ^ 63 = omega (arith, read.few, read.high, short) in
-      let records : Records = records_of alloc link rows cut few in
+      let records : Records = records_of walk.records.begun.alloc link rows cut few in
       let all = decided link 1 is.at.seen stage.handed capture stage.are is.at.captured in
       let stand = along 1 rows (packets_among stage.handed) read.timely all.stand in
       record {

@@ -3,7 +3,8 @@
 //!
 //! - [`PacketWalk`] is fed the bytes of a capture in turn, makes a packet of each record as soon as that is whole, and
 //!   hands it to a [`PacketVisitor`], a segment with its payload. It keeps none. At the end, [`PacketWalk::finish`]
-//!   returns what the packets of the whole capture made of the visitor, or the first refusal that applies.
+//!   returns what the packets of the whole capture made of the visitor, or the first refusal that applies. So does
+//!   [`PacketWalk::end`] of a walk that was fed all bytes, which nobody need have kept.
 //! - A record holds a TCP segment, or something that is passed over and named ([`Skip`]), or a packet that cannot be
 //!   read ([`Refusal`]). Of twelve lines in a fixed order the first that applies decides. `specs/Decision.antt` lists
 //!   them, the twelfth being the segment; `specs/Ethernet.antt`, `specs/Ipv4.antt` (RFC 791, 3.1) and `specs/Tcp.antt`
@@ -25,7 +26,8 @@
 //! - Checksums have no effect: a sender's own capture has them unfilled where the network card computes them. FIN, RST,
 //!   windows, options and urgent pointers have none: sequence numbers alone decide a flow. Bytes past the total length
 //!   are not of the datagram; a total length of 0, which segmentation offload leaves, means all captured bytes.
-//! - The prover refuses: a fragment judged before its end, one mark for two refusals, the segment of another packet.
+//! - The prover refuses: a fragment judged before its end, one mark for two refusals, the segment of another packet, a
+//!   cut record that is never told.
 //! - Whole reports test that a walk succeeds where there is memory.
 #![tactic(auto)]
 

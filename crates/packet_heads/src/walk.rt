@@ -1,6 +1,7 @@
 //! The packets of a capture, made while it is read.
 
-ghost use Rattle.std.specs.Prelude.{◌≡◌, ◌<◌, ◌≤◌, ◌^◌, ◌⊎◌, [], IfErr, IfOk, IfSome, None, OnOk, Some, length, take};
+ghost use Rattle.std.specs.Prelude.{◌≡◌, ◌<◌, ◌≤◌, ◌^◌, ◌⊎◌, [], ℕ, Err, IfErr, IfOk, IfSome, List, None, OnOk, Some};
+ghost use Rattle.std.specs.Prelude.{length, take};
 ghost use Rattle.input_output.specs.code.Front.{StandsInFront};
 ghost use Rattle.pcap_records.specs.Refusal.{refusal};
 ghost use Rattle.packet_heads.specs.code.Walk.{HasMade, HasMet};
@@ -53,7 +54,11 @@ impl<V: PacketVisitor + Drop> PacketWalk<V> {
     /// refused is read whole: bytes at its end that hold no whole record are the cut record, and all before it counts.
     /// [`PcapFault::OutOfMemory`] comes only where memory was wanting, for the visitor or for a record that crosses
     /// chunks of the capture.
-    pub fn finish(self, alloc: Global, capture: &Capture<'_>) -> Result<(V, Option<u32>), PcapFault>
+    pub fn finish(
+        mut self,
+        alloc: Global,
+        capture: &Capture<'_>,
+    ) -> Result<(V, Option<u32>), PcapFault>
         requires walk { StandsInFront (HasMade V.after) capture.now self }
         // Nothing refuses the capture, and the visitor was handed a packet for each of its records: the decision on it.
         ensures taken { OnOk result (refusal capture.now ≡ None) }
@@ -67,23 +72,27 @@ impl<V: PacketVisitor + Drop> PacketWalk<V> {
         if let Some(fault) = refusal_in_chunks(capture) {
             return Err(fault);
         }
-        match self.completed(alloc, capture) {
-            Ok(found) => Ok(found),
+        match feed_rest(alloc, capture, &mut self) {
+            Ok(()) => self.end(),
             Err(_) => Err(PcapFault::OutOfMemory),
         }
     }
 
-    /// The same of a capture that is not refused.
-    fn completed(
-        mut self,
-        alloc: Global,
-        capture: &Capture<'_>,
-    ) -> Result<(V, Option<u32>), AllocError>
-        requires walk { StandsInFront (HasMade V.after) capture.now self }
-        requires short { length capture.now < 2 ^ 31 }
-        ensures { IfOk result (λ found. HasMet V.after capture.now found.0 found.1) }
+    /// The same, where the walk was fed all of the capture, whose bytes nobody need have kept: its header was taken, so
+    /// its length alone can refuse it. It takes no memory.
+    pub fn end(self) -> Result<(V, Option<u32>), PcapFault>
+        requires { (capture : List ℕ) × HasMade V.after capture self × (length capture ≤ 2 ^ 31) }
+        ensures taken { (capture : List ℕ) → HasMade V.after capture self → OnOk result (refusal capture ≡ None) }
+        ensures met { (capture : List ℕ) → HasMade V.after capture self
+            → IfOk result (λ found. HasMet V.after capture found.0 found.1) }
+        ensures refused { (capture : List ℕ) → HasMade V.after capture self
+            → IfSome (refusal capture) (λ e. result ≡ Err e) }
+        ensures err { (capture : List ℕ) → HasMade V.after capture self → IfErr result (λ e. refusal capture ≡ Some e) }
+        ensures short { (capture : List ℕ) → HasMade V.after capture self → OnOk result (length capture < 2 ^ 31) }
     {
-        feed_rest(alloc, capture, &mut self)?;
+        if let Some(fault) = self.records.refusal() {
+            return Err(fault);
+        }
         let cut = self.records.cut(self.records.visitor().count);
         let PacketStage { visitor, count: _ } = self.records.into_visitor();
         Ok((visitor, cut))

@@ -94,7 +94,7 @@ class Memory(unittest.TestCase):
         "input_output/src/kept_bytes.rt": [
             "let Ok(capture) = Capture::with_last(alloc, self.chunks.as_slice(), &[]) else { return Err(AllocError);"
         ],
-        "packet_heads/src/walk.rt": ["match self.completed(..) { Err(_) => Err(PcapFault::OutOfMemory),"],
+        "packet_heads/src/walk.rt": ["match feed_rest(..) { Err(_) => Err(PcapFault::OutOfMemory),"],
         "pcap_records/src/reading.rt": ["Ok(format) => match all_of(..) { Err(_) => Err(PcapFault::OutOfMemory),"],
         "report_pages/src/report.rt": ["match self.write_all(..) { Err(_) => Err(AllocError),"],
         "split_program/src/command.rt": ["if kind == ErrorKind::OutOfMemory { return Err(Failure::OutOfMemory);"],
