@@ -6,7 +6,7 @@ use std::io::{self, ErrorKind, Write};
 
 use captures::{pcap, Decoder, HeldSegment, Segment};
 
-use crate::listener::Written;
+use crate::listener::{Written, HEADERS};
 
 /// So many runs are kept at most, in a megabyte and a half.
 const MOST_RUNS: usize = 1 << 16;
@@ -89,7 +89,7 @@ impl Standing {
     /// Writes all records, as their packets stand in the file.
     pub fn copy(&self, file: File, to: &mut dyn Write) -> io::Result<()> {
         let mut packets = Packets::of(pcap::Records::of(file, self.header));
-        let (mut writer, mut room) = (pcap::Writer::after_header(to), Vec::new());
+        let (mut writer, mut room) = (pcap::Writer::after_header(to), [0; HEADERS]);
         for (run, count) in self.counted() {
             for packet in run.packet..run.packet + count {
                 packets.take(packet, |nanos, segment| {
