@@ -1,7 +1,6 @@
 //! Which listeners stand one behind the other: a proxy carries the requests of one to the other.
 
 use std::collections::{HashMap, HashSet};
-use std::hash::{Hash, Hasher};
 
 use cutter::Numbers;
 
@@ -72,8 +71,8 @@ impl By {
             By::Any => 0,
         };
         let Brief { method, status, contents, .. } = one.brief;
-        let [[a, b], [c, d]] = contents.map(|number| [(number >> 32) as u32, number as u32]);
-        Key([last, method, status, a, b, c, d])
+        let [sent, answered] = contents.map(|number| Halves((number >> 32) as u32, number as u32));
+        Key { last, method, status, contents: (sent, answered) }
     }
 
     /// Whether so many of a listener's requests make a hop.
@@ -86,19 +85,16 @@ impl By {
 }
 
 /// In pieces of four bytes, so that a table of many has no gaps.
-#[derive(Clone, Copy, Debug, PartialEq, Eq)]
-struct Key([u32; 7]);
-
-impl Hash for Key {
-    #[inline]
-    fn hash<H: Hasher>(&self, state: &mut H) {
-        let Key([last, method, status, a, b, c, d]) = *self;
-        let pair = |high: u32, low: u32| u64::from(high) << 32 | u64::from(low);
-        state.write_u64(pair(last, method));
-        state.write_u32(status);
-        [pair(a, b), pair(c, d)].into_iter().for_each(|number| state.write_u64(number));
-    }
+#[derive(Clone, Copy, Debug, PartialEq, Eq, Hash)]
+struct Key {
+    last: u32,
+    method: u32,
+    status: u32,
+    contents: (Halves, Halves),
 }
+
+#[derive(Clone, Copy, Debug, PartialEq, Eq, Hash)]
+struct Halves(u32, u32);
 
 /// Requests by what is the same, which is numbered, of each listener the latest end of those that were opened so far.
 #[derive(Default)]
