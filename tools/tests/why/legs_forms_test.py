@@ -16,6 +16,7 @@ from tools.tests.why.legs_packets import OnLegs, capture_named, port, ports_of, 
 from tools.tests.why_tools import WHY, has_programs, programs_of, said_of, text
 
 RUNS = ("$H2AUDIT",)
+TIMED = True
 # What legs may cost beside all else, where there are hops and where there are none, with room for a busy machine.
 WITH_HOPS, WITHOUT = 1.7, 1.25
 TIMES_AS_LONG = 12
@@ -90,10 +91,11 @@ class Forms(OnLegs):
 
 
 class Costs(OnLegs):
-    """Processor seconds of h2audit-why and what it starts, the least of some runs."""
+    """Processor seconds of h2audit-why and what it starts, the least of some runs in turn."""
 
-    def seconds(self, *words: str | pathlib.Path) -> float:
-        return min(self.once(*words) for _ in range(5))
+    def seconds(self, *runs: list[str | pathlib.Path]) -> list[float]:
+        times = [[self.once(*words) for words in runs] for _ in range(9)]
+        return [min(one) for one in zip(*times, strict=True)]
 
     def once(self, *words: str | pathlib.Path) -> float:
         child = subprocess.Popen([str(WHY), "--json", *map(str, words)], stdout=subprocess.DEVNULL)
@@ -103,7 +105,7 @@ class Costs(OnLegs):
         return float(usage.ru_utime + usage.ru_stime)
 
     def written(self, capture: bytes) -> pathlib.Path:
-        path = self.folder / "written.pcap"
+        path = self.folder / f"{len(capture)}.pcap"
         path.write_bytes(capture)
         return path
 
@@ -113,11 +115,13 @@ class Costs(OnLegs):
             with self.subTest(has_back=has_back):
                 path = self.written(mixed(4000, has_back))
                 self.assertEqual(len(said_of(path)["hops"]), int(has_back))
-                self.assertLessEqual(self.seconds(path), most * self.seconds("--no-legs", path))
+                with_legs, without = self.seconds([path], ["--no-legs", path])
+                self.assertLessEqual(with_legs, most * without)
 
     def test_growth(self) -> None:
         """Ten times as many equal requests, all open at once, take hardly more than ten times as long."""
-        few, many = (self.seconds(self.written(at_once(count))) for count in (1000, 10_000))
+        small, large = (self.written(at_once(count)) for count in (1000, 10_000))
+        few, many = self.seconds([small], [large])
         self.assertLessEqual(many, TIMES_AS_LONG * few)
 
 
