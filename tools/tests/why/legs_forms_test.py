@@ -17,9 +17,9 @@ from tools.tests.why_tools import WHY, has_programs, programs_of, said_of, text
 
 RUNS = ("$H2AUDIT",)
 TIMED = True
-# What legs may cost beside all else, where there are hops and where there are none, and ten times as many requests, with
-# room for a busy machine: the goals are 1.5, 1.1 and 12 on a quiet one (bench/README.md), and pairs of all would take a
-# hundred times as long.
+# What legs may cost beside all else, where there are hops and where there are none, and ten times as many requests with
+# them. There is room for a busy machine: the goals are 1.5, 1.1 and 12 on a quiet one (bench/README.md), and pairs of
+# all would take a hundred times as long.
 WITH_HOPS, WITHOUT = 2.0, 1.4
 TIMES_AS_LONG = 20
 
