@@ -1,3 +1,4 @@
 mod Joins
 mod FrameNumbers
 mod Sweep
+mod Counting

@@ -3,7 +3,8 @@
 //! - The whole text is `report_text` of `specs/ReportText.antt`: the lines on the capture, then a section for each
 //!   connection, with its findings, the stalls that they tell of, and how its audit ended. Each kind of line has a
 //!   definition of its own in `specs/`; `specs/Line.antt` and `specs/Endpoint.antt` say how a line is spelled.
-//! - [`capture_lines`] begins it, from the packets and the strays.
+//! - [`CaptureLines`] begins it, from the packets, as they come, and the strays; [`capture_lines`] from those that are
+//!   held.
 //! - Sections are written page by page. A page is a `Vec` whose room the caller reserves, [`LINE_ROOM`] bytes a line;
 //!   it is filled, written, cleared and filled again. Each call that fills it asks for room for so many lines, says
 //!   what it added and how much of that room it took (`specs/code/Pages.antt`), and cannot fail.
@@ -24,7 +25,8 @@
 //!   frame n has index n - 1, then by binary search. A line is made backwards from its end, in one buffer for all
 //!   (`lines`), and then appended to the page at once.
 //! - [`worked_examples`] shows stalls: of both sides, of several windows, without an end, by a clock that went back.
-//! - Refused by the prover: the cut record left out, a sign left out, an end of a stall that has none.
+//! - Refused by the prover: the cut record left out, a packet that counts twice, a sign left out, an end of a stall
+//!   that has none.
 //! - Tested: in `crate_tests` the lines on one packet of each kind, and by whole reports that the calls succeed where
 //!   there is memory.
 //! - Trusted: what `itoa` states of the digits that it writes.
@@ -51,7 +53,7 @@ mod words;
 pub mod worked_examples;
 
 pub use audited::Audited;
-pub use capture::capture_lines;
+pub use capture::{CaptureLines, capture_lines};
 pub use contents::Contents;
 pub use endings::{add_end_line, add_stall_lines};
 pub use extents::Extent;

@@ -1,23 +1,18 @@
 ghost use Rattle.std.specs.Prelude.{◌≡◌, ◌++◌, OnOk};
 ghost use Rattle.packet_heads.specs.declared.packets.Refusal.{Refusal};
-ghost use Rattle.audit_report.specs.RecordLines.{record_line, record_lines_from};
+ghost use Rattle.audit_report.specs.RecordLines.{record_line};
 
 use crate::words::{push_field, push_word, push_words};
-use packet_heads::{Packet, Packets, Refusal, Skip};
+use packet_heads::{Packet, Refusal, Skip};
 use std::alloc::AllocError;
 
-/// Adds a line for each fragment and each refused packet, under the number of its record.
-pub(crate) fn push_record_lines(out: &mut Vec<u8>, packets: &Packets<'_>) -> Result<(), AllocError>
-    ensures { OnOk result (out.new.items ≡ out.old.items ++ record_lines_from 1 packets.now) }
-{
-    for index in 0..packets.len() {
-        push_record_line(out, index as u64 + 1, &packets.at(index))?;
-    }
-    Ok(())
-}
-
+/// Adds the line of a packet that is a fragment or refused, under the number of its record.
 #[inline(always)]
-fn push_record_line(out: &mut Vec<u8>, number: u64, packet: &Packet) -> Result<(), AllocError>
+pub(crate) fn push_record_line(
+    out: &mut Vec<u8>,
+    number: u64,
+    packet: &Packet,
+) -> Result<(), AllocError>
     ensures { OnOk result (out.new.items ≡ out.old.items ++ record_line number packet.now) }
 {
     match packet {

@@ -2,7 +2,7 @@ ghost use Rattle.std.specs.Prelude.{◌≡◌, ◌+◌, ◌<◌, ◌^◌, if◌t
 ghost use Rattle.audit_report.specs.CaptureLine.{is_segment, is_snapped, is_not_ipv4, is_fragment, is_not_tcp};
 ghost use Rattle.audit_report.specs.CaptureLine.{is_refused};
 
-use packet_heads::{Packet, Packets, Skip};
+use packet_heads::{Packet, Skip};
 
 /// How many packets there are of each kind.
 #[derive(Clone, Copy)]
@@ -16,9 +16,7 @@ pub(crate) struct Tally {
 }
 
 impl Tally {
-    ghost use Rattle.audit_report.specs.code.Tally.{IsTallyOf};
-
-    const NONE: Tally = Tally {
+    pub(crate) const NONE: Tally = Tally {
         segments: 0,
         snapped: 0,
         not_ipv4: 0,
@@ -27,19 +25,9 @@ impl Tally {
         refused: 0,
     };
 
-    /// Counts all packets.
-    pub(crate) fn of(packets: &Packets<'_>) -> Tally
-        ensures { IsTallyOf packets.now result }
-    {
-        let mut tally = Tally::NONE;
-        for index in 0..packets.len() {
-            tally.add(&packets.at(index));
-        }
-        tally
-    }
-
+    /// Counts one packet more.
     #[inline(always)]
-    fn add(&mut self, packet: &Packet)
+    pub(crate) fn add(&mut self, packet: &Packet)
         requires segments { self.old.segments + 1 < 2 ^ 64 }
         requires snapped { self.old.snapped + 1 < 2 ^ 64 }
         requires not_ipv4 { self.old.not_ipv4 + 1 < 2 ^ 64 }

@@ -1,0 +1,7 @@
+use Rattle.std.proofs.Common.{take}
+use Rattle.audit_report.specs.code.Packets.{HasCounted}
+use Rattle.audit_report.proofs.capture.capture_lines.Given as goal
+
+-- the packets so far were taken
+abbrev pub invariant-loop-index : goal.invariant-loop-index
+invariant-loop-index l = HasCounted (take l.index l.packets) l.lines
