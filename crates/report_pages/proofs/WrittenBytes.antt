@@ -7,8 +7,8 @@ use Rattle.std.proofs.lemmas.{Grind.flat_map-append, List.take-append-drop, List
 use Rattle.std.proofs.lemmas.List.{append_assoc, length-take-le, take-append-le, take_all}
 use Rattle.std.specs.{Global.Global, List.flat_map}
 use Rattle.std.specs.Io.KnownBytes.{Appends}
-use Rattle.input_output.specs.Calls.{Call, MovesBytes, bytes_moved, moved}
-use Rattle.input_output.specs.code.Writes.{HasFailed, IsFailure}
+use Rattle.input_output.specs.Calls.{MovesBytes, bytes_moved, moved}
+use Rattle.input_output.specs.code.Writes.{HasFailed}
 use Rattle.input_output.specs.declared.report_writer.ReportWriter.{ReportWriter}
 use Rattle.input_output.proofs.CallLemmas.{each-append, moved-append}
 use Rattle.report_pages.specs.code.Written.{HasWritten}

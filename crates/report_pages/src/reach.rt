@@ -2,7 +2,7 @@ ghost use Rattle.std.specs.Prelude.{◌≡◌};
 
 use audit_report::Extent;
 use audit_terms::Sides;
-use tcp_streams::Flow;
+use tcp_streams::{Flow, FlowEnd};
 
 /// The extent of a flow of a capture in 8 bytes: if bytes are missing, the first missing offset is its length.
 #[derive(Clone, Copy)]
@@ -18,7 +18,9 @@ const _: () = prove!(size_of::<Reach>() == 8);
 impl Reach {
     ghost use Rattle.audit_report.specs.FlowLine.{extent_of, extents_of};
     ghost use Rattle.report_pages.specs.code.Reach.{HasGapAtEnd, extent_in, extents_in};
+    ghost use Rattle.h2_frames.specs.code.ConnectionFrames.{EndsSo};
     ghost use Rattle.tcp_streams.specs.code.Orderly.{IsOrderly};
+    ghost use Rattle.tcp_streams.specs.declared.flows.Flow.{Flow as FlowTerm};
 
     /// The reach of one flow.
     fn of(flow: &Flow) -> Reach
@@ -43,6 +45,28 @@ impl Reach {
         Sides {
             client: Reach::of(client),
             server: Reach::of(server),
+        }
+    }
+
+    /// The reach of a flow that ends so.
+    fn of_end(end: FlowEnd) -> Reach
+        ensures { (flow : FlowTerm) → EndsSo flow end → HasGapAtEnd flow → extent_in result ≡ extent_of flow }
+    {
+        Reach {
+            size: end.length,
+            has_gap: end.gap.is_some(),
+        }
+    }
+
+    /// The reach of a connection's flows, which end so.
+    pub fn of_ends(client: FlowEnd, server: FlowEnd) -> Sides<Reach>
+        ensures { (client_flow server_flow : FlowTerm) → EndsSo client_flow client → EndsSo server_flow server
+            → HasGapAtEnd client_flow → HasGapAtEnd server_flow
+            → extents_in result ≡ extents_of client_flow server_flow }
+    {
+        Sides {
+            client: Reach::of_end(client),
+            server: Reach::of_end(server),
         }
     }
 

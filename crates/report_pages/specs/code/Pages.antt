@@ -1,7 +1,7 @@
 -- Pages of a text, and what writes take of it.
 use Rattle.std.specs.Global.{Global}
 use Rattle.std.specs.List.{concat, flat_map}
-use Rattle.std.specs.Prelude.{◌≡◌, ℕ, ◌+◌, ◌*◌, ◌<◌, ◌≤◌, ◌^◌, All, List, Option, OnOk, Result, Vec, length, take}
+use Rattle.std.specs.Prelude.{◌≡◌, ℕ, ◌*◌, ◌<◌, ◌≤◌, ◌^◌, All, List, Vec, length, take}
 use Rattle.std.specs.Prelude.{vec_capacity}
 use Rattle.audit_report.specs.declared.headings.SectionHeading.{SectionHeading}
 use Rattle.report_pages.specs.code.Entries.{entries_at}
