@@ -77,7 +77,7 @@ module _ (credits : Bool) (capture : List ℕ) (packets : List Packet) where
   are-told (c ∷ opened) (p ∷ parts) same each =
       (each 0 p c refl refl, are-told opened parts (omega arith) (λ n. each (suc n)))
 
-  held-orderly : (client server : Flow) (o : Outcome) → IsHeldBy credits client server o → HasOrderlyOutcome o
+  pub held-orderly : (client server : Flow) (o : Outcome) → IsHeldBy credits client server o → HasOrderlyOutcome o
   held-orderly client server (outcome.Found found) held = rw held.1.kept.frames held.1.of_flows.some_orderly
   held-orderly client server (outcome.Audited audited) held = held.2
   held-orderly client server _ held = tt

@@ -1,11 +1,48 @@
 -- What is kept of a capture answers for all of it.
 use Rattle.std.proofs.Common.{◌≡◌, ◌∙◌, ℕ, List, ◌++◌, length, take, Some, None, sym, ap, subst}
+use Rattle.std.proofs.Common.{Result, Ok, Err, IfErr, IfOk}
+use Rattle.std.proofs.Common.{IfSome, Option, rules}
 use Rattle.pcap_records.specs.Refusal.{refusal}
 use Rattle.pcap_records.specs.declared.faults.PcapFault.{PcapFault}
+use Rattle.pcap_records.specs.declared.faults.PcapFault.TheVariants.{OutOfMemory}
 use Rattle.pcap_records.proofs.Sizes.{header_refuses_lem}
 use Rattle.input_output.specs.Account.{given, kept}
 use Rattle.input_output.specs.declared.capture_reader.CaptureReader.{CaptureReader}
-use Rattle.h2audit.specs.code.Reading.{AnswersFor}
+use Rattle.packet_heads.specs.code.Walk.{HasMade}
+use Rattle.packet_heads.specs.declared.walk.PacketWalk.{PacketWalk}
+use Rattle.tcp_streams.specs.code.Walk.{IsConnectionWalkIn}
+use Rattle.tcp_streams.specs.declared.walk.ConnectionWalk.{ConnectionWalk}
+use Rattle.h2audit.specs.code.Met.{HasMetPackets}
+use Rattle.h2audit.specs.code.Reading.{AnswersFor, IsHeaderOf, IsMetHeaderOf}
+use Rattle.h2audit.specs.declared.met_captures.MetCapture.{MetCapture}
+use Rattle.h2audit.specs.declared.reading.FileHeader.{FileHeader}
+use Rattle.h2audit.specs.declared.reading.FileHeader.TheVariants as header
+
+-- want of memory refuses no capture
+refuses_none : (capture : List ℕ) → refusal capture ≡ Some OutOfMemory → ⊥
+refuses_none capture is = search rules
+
+pub unrefused : {A : Type 0} (capture : List ℕ) (result : Result A PcapFault) (r : Option PcapFault)
+    → refusal capture ≡ r
+    → IfSome r (λ e. result ≡ Err e) → result ≡ Err OutOfMemory → refusal capture ≡ None
+unrefused capture result None same refused is = same
+unrefused capture result (Some e) same refused is =
+    let memory : e ≡ OutOfMemory = cc in absurd (refuses_none capture (same ∙ ap Some memory))
+
+-- what the beginning of a capture gives
+pub header_of : (bytes : List ℕ) (begun : Result ConnectionWalk PcapFault) (gives : FileHeader ConnectionWalk)
+    → IfOk begun (λ walk. gives ≡ header.Taken walk) → IfErr begun (λ e. gives ≡ header.Refused e)
+    → IfOk begun (IsConnectionWalkIn bytes) → IfErr begun (λ e. refusal bytes ≡ Some e) → IsHeaderOf bytes gives
+header_of bytes (Ok walk) gives taken refused ok err = subst (IsHeaderOf bytes) (sym taken) ok
+header_of bytes (Err e) gives taken refused ok err = subst (IsHeaderOf bytes) (sym refused) err
+
+pub met_header_of : (bytes : List ℕ) (begun : Result (PacketWalk MetCapture) PcapFault)
+    (gives : FileHeader (PacketWalk MetCapture))
+    → IfOk begun (λ walk. gives ≡ header.Taken walk) → IfErr begun (λ e. gives ≡ header.Refused e)
+    → IfOk begun (HasMade HasMetPackets bytes) → IfErr begun (λ e. refusal bytes ≡ Some e)
+    → IsMetHeaderOf bytes gives
+met_header_of bytes (Ok walk) gives taken refused ok err = subst (IsMetHeaderOf bytes) (sym taken) ok
+met_header_of bytes (Err e) gives taken refused ok err = subst (IsMetHeaderOf bytes) (sym refused) err
 
 module _ {R : Type 0} where
   -- a file header that is kept and not refused stays in front

@@ -81,6 +81,14 @@ module _ {R W : Type 0} where
   tells_unread reader writer shown fault.Write is unwritten = absurd is
   tells_unread reader writer shown (fault.Pcap e) is unwritten = absurd is
 
+  -- the bytes that the reads gave have no report
+  pub tells_refused : (reader : CaptureReader R) (writer : ReportWriter W) (shown : Bool) (e : AuditFault)
+      → IsReadToEnd reader → IsUnwritten writer → IsNoReport (given reader) e → Tells reader writer shown (Err e)
+  tells_refused reader writer shown (fault.Pcap e) read unwritten is = (read, is, unwritten)
+  tells_refused reader writer shown fault.OutOfMemory read unwritten is = (inr (read, is), unwritten)
+  tells_refused reader writer shown fault.Read read unwritten is = absurd is
+  tells_refused reader writer shown fault.Write read unwritten is = absurd is
+
   -- what is kept has no report, and neither have the bytes that the reads gave
   pub tells_no_report : (reader : CaptureReader R) (writer : ReportWriter W) (shown : Bool) (e : AuditFault)
       → IsReadToEnd reader → AnswersFor (kept reader) (given reader) → IsUnwritten writer

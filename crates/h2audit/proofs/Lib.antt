@@ -9,3 +9,5 @@ mod Numbers
 mod OptionReads
 mod Added
 mod Alike
+mod Zips
+mod MetAudits

@@ -34,7 +34,7 @@ use Rattle.tcp_streams.specs.declared.{members.Connection.Connection, flows.Flow
 use Rattle.h2_frames.specs.declared.cuts.Cut.TheVariants as cut
 
 -- a list in memory of these items, in the place of another one
-abbrev list-of : {X Y : Type 0} → Vec X Global → (items : List Y) → length items < 2 ^ 63 → Vec Y Global
+abbrev pub list-of : {X Y : Type 0} → Vec X Global → (items : List Y) → length items < 2 ^ 63 → Vec Y Global
 list-of place items few = record {
   ptr = place.ptr;
   len = length items;

@@ -1,4 +1,4 @@
-ghost use Rattle.std.specs.Prelude.{◌≡◌, ◌<◌, ◌^◌, ◌⊎◌, All, IfOk, IfErr, IsOk, None, Ok, Err, length};
+ghost use Rattle.std.specs.Prelude.{◌≡◌, ℕ, ◌<◌, ◌^◌, ◌⊎◌, All, IfOk, IfErr, IsOk, List, None, Ok, Err, false, length};
 ghost use Rattle.pcap_records.specs.Refusal.{refusal};
 ghost use Rattle.packet_heads.specs.code.Walk.{AreInOrder, ArePacketsOf, packets_in};
 ghost use Rattle.tcp_streams.specs.Membership.{AreConnections, strays_of};
@@ -6,8 +6,10 @@ ghost use Rattle.tcp_streams.specs.code.Orderly.{AreMembers};
 ghost use Rattle.tcp_streams.specs.code.Walk.{IsConnectionWalkIn};
 ghost use Rattle.h2audit.specs.Report.{IsNoReport, IsReport};
 ghost use Rattle.h2audit.specs.code.Flows.{AreSources, AreToldFlows};
+ghost use Rattle.h2audit.specs.code.Met.{IsMetEnd};
+ghost use Rattle.report_pages.specs.code.Sections.{AreHeaded};
 ghost use Rattle.report_pages.specs.code.Told.{HasOrderlyOutcome};
-ghost use Rattle.h2audit.specs.code.Writing.{AreLinesOf, AreTold};
+ghost use Rattle.h2audit.specs.code.Writing.{AreLinesOf, AreTold, IsToldBehind};
 ghost use Rattle.report_pages.specs.declared.told.Told.{Told as ToldTerm};
 ghost use Rattle.stop_desk.specs.declared.parts.Part.{Part as PartTerm};
 
@@ -15,11 +17,12 @@ use crate::command_line::Options;
 use crate::each_connection::{audit_each, flows_each};
 use crate::fault::AuditFault;
 use crate::headings::headings_of;
+use crate::met_captures::MetCapture;
 use crate::verdict::{Verdict, verdict_on};
 use audit_report::{SectionHeading, capture_lines};
 use audit_rounds::Division;
 use input_output::{Capture, TableHash};
-use packet_heads::{CapturePackets, Packets};
+use packet_heads::{CapturePackets, PacketWalk, Packets};
 use pcap_records::PcapFault;
 use report_pages::{Report, Told};
 use std::alloc::{AllocError, Global};
@@ -42,6 +45,9 @@ pub fn audit(
         (λ r. IsReport capture.now options.now.frames_shown r.0.items r.1) }
     ensures refused { IfErr result (λ e. IsNoReport capture.now e) }
 {
+    if options.audits_as_read() {
+        return audit_as_read(rt, alloc, capture);
+    }
     // A refusal takes no memory, so it comes before the chunks.
     match ConnectionWalk::begin(alloc, TableHash::drawn(rt), capture) {
         Ok(walk) => match Capture::of_slice(alloc, capture) {
@@ -51,6 +57,48 @@ pub fn audit(
             }
             Err(_) => Err(AuditFault::OutOfMemory),
         },
+        Err(refusal) => Err(AuditFault::Pcap(refusal)),
+    }
+}
+
+/// The report of a capture, without credits, and its verdict, by a walk that keeps no packet.
+fn audit_as_read(
+    rt: &(impl Threads + Sync + RandomSource),
+    alloc: Global,
+    capture: &[u8],
+) -> Result<(Vec<u8>, Verdict), AuditFault>
+    ensures report { IfOk result (λ r. IsReport capture.now false r.0.items r.1) }
+    ensures refused { IfErr result (λ e. IsNoReport capture.now e) }
+{
+    let met = MetCapture::new(alloc, TableHash::drawn(rt));
+    match PacketWalk::begin(alloc, capture, met) {
+        Ok(walk) => match Capture::of_slice(alloc, capture) {
+            Ok(chunks) => {
+                let ended = walk.finish(alloc, &chunks);
+                in_bytes(rt, alloc, report_met(alloc, ended))
+            }
+            Err(_) => Err(AuditFault::OutOfMemory),
+        },
+        Err(refusal) => Err(AuditFault::Pcap(refusal)),
+    }
+}
+
+/// The report of a capture whose packets were met as they came, and its verdict.
+pub(crate) fn report_met(
+    alloc: Global,
+    ended: Result<(MetCapture, Option<u32>), PcapFault>,
+) -> Result<(Report, Verdict), AuditFault>
+    requires { (capture : List ℕ) × IsMetEnd capture ended }
+    ensures report { (capture : List ℕ) → IsMetEnd capture ended
+        → IfOk result (λ r. IsReport capture false r.0 r.1) }
+    ensures refused { (capture : List ℕ) → IsMetEnd capture ended → IfErr result (λ e. IsNoReport capture e) }
+{
+    match ended {
+        Ok((met, cut)) => match met.report(alloc, cut) {
+            Ok(answer) => Ok(answer),
+            Err(_) => Err(AuditFault::OutOfMemory),
+        },
+        Err(PcapFault::OutOfMemory) => Err(AuditFault::OutOfMemory),
         Err(refusal) => Err(AuditFault::Pcap(refusal)),
     }
 }
@@ -179,15 +227,31 @@ fn report_parts<R: Threads + Sync, G: Gate>(
     ensures { IfOk result (λ r. AreTold division.now.frames_shown lines.items headings.items parts.items r.0 r.1) }
 {
     let told = audit_each(team, division, parts)?;
-    let verdict = verdict_on(told.as_slice());
-    let report = Report::new(
+    report_of(
         team.alloc,
         team.workers,
         division.frames_shown,
         lines,
         headings,
         told,
-    )?;
+    )
+}
+
+/// The report of connections of which this is told, behind the lines of the capture, and its verdict. So many workers
+/// spell it.
+pub(crate) fn report_of(
+    alloc: Global,
+    workers: u32,
+    frames_shown: bool,
+    lines: Vec<u8>,
+    headings: Vec<SectionHeading>,
+    told: Vec<Told>,
+) -> Result<(Report, Verdict), AllocError>
+    requires { AreHeaded 1 headings.items told.items }
+    ensures { IfOk result (λ r. IsToldBehind frames_shown lines.items headings.items told.items r.0 r.1) }
+{
+    let verdict = verdict_on(told.as_slice());
+    let report = Report::new(alloc, workers, frames_shown, lines, headings, told)?;
     Ok((report, verdict))
 }
 

@@ -284,7 +284,7 @@ fn outcome_met<R: Threads>(
 }
 
 /// What was found of a connection, with its stalls.
-fn outcome_found(alloc: Global, found: FoundConnection) -> Result<Outcome, AllocError>
+pub(crate) fn outcome_found(alloc: Global, found: FoundConnection) -> Result<Outcome, AllocError>
     requires { IsOrderly found.shown_at.items }
     ensures { IfOk result (λ outcome. KeepsFound outcome found) }
 {

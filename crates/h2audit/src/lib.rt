@@ -14,6 +14,8 @@
 //!   only where a call failed (clause `tells`, `Tells` of `specs/Account.antt`), for every reader and writer, also of
 //!   files and pipes. Where these tell their bytes themselves, they are those of the calls (`given`, `taken`); what a
 //!   run then leaves in the writer follows ([`laws::runs_leave`], [`laws::faults_are_silent`]).
+//! - One worker who shows no credits audits a capture as it is read, 256 KiB at a time (`met_captures`): what is kept
+//!   is the file header, a record's front, what each connection waits for and has found. Else all bytes are kept.
 //! - [`run_program`] is the program, over its words and what it is lent ([`Outside`]): a way to open FILE and to say a
 //!   line, and the accounts of standard input, of FILE and of standard output. It does what the words ask for and
 //!   nothing else (`Ends` of `specs/Program.antt`). [`program_words`] leaves out the program's name.
@@ -29,7 +31,7 @@
 //!   of them. Of all connections it is kept until the report is written.
 //! - Refused by the prover: an empty report, a verdict by errors alone, one that does not ask what was found as frames
 //!   were met, standard input read beside FILE, FILE left out, an option's number given up, a word after the program's
-//!   name left out, the ends of a connection exchanged.
+//!   name left out, the ends of a connection exchanged, a first segment that is not met.
 //! - Tested, in `crate_tests`: the texts of faults; in `tests/` at the root: what the program answers to words, the
 //!   texts of help and of refused words, whole reports, long captures.
 #![tactic(auto)]
@@ -41,6 +43,8 @@ mod fault;
 mod flow_round;
 mod headings;
 pub mod laws;
+mod met_captures;
+mod met_connections;
 mod program;
 mod reading;
 mod running;

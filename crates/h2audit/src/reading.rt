@@ -1,14 +1,17 @@
-ghost use Rattle.std.specs.Prelude.{◌≡◌, List, ℕ, Err, IfErr, IfOk, Ok, Some};
-ghost use Rattle.pcap_records.specs.Refusal.{refusal};
-ghost use Rattle.tcp_streams.specs.code.Walk.{IsConnectionWalkIn};
+ghost use Rattle.std.specs.Prelude.{◌≡◌, [], Err, IfErr, IfOk, Ok};
 ghost use Rattle.input_output.specs.Account.{IsUnread};
 ghost use Rattle.input_output.specs.code.Reading as accounted;
-ghost use Rattle.h2audit.specs.code.Reading.{HasReadCapture, IsHeaderOf, IsReadingFault};
+ghost use Rattle.h2audit.specs.code.Met.{HasMetPackets};
+ghost use Rattle.h2audit.specs.code.Reading.{HasMetCapture, HasReadCapture, IsReadingFault};
+ghost use Rattle.h2audit.specs.declared.reading.FileHeader.TheVariants as header;
 
 use crate::fault::AuditFault;
+use crate::met_captures::MetCapture;
 use input_output::{
     CaptureReader, ChunksAhead, ReadFault, TableHash, keep_and_walk, keep_up_to, pass_over,
+    walk_and_let_go,
 };
+use packet_heads::PacketWalk;
 use pcap_records::{FILE_HEADER, PcapFault};
 use std::alloc::Global;
 use std::io::Read;
@@ -18,9 +21,9 @@ use tcp_streams::ConnectionWalk;
 
 /// What the file header of a capture gives.
 #[derive(Drop)]
-pub(crate) enum FileHeader {
-    /// It is taken: the walk has made the packets so far, and found their connections.
-    Taken(ConnectionWalk),
+pub(crate) enum FileHeader<W> {
+    /// It is taken: the walk has taken in what was read so far.
+    Taken(W),
     /// Why it is refused.
     Refused(PcapFault),
 }
@@ -33,7 +36,7 @@ pub(crate) fn read_capture<R: Read>(
     alloc: Global,
     workers: u32,
     reader: &mut CaptureReader<R>,
-) -> Result<FileHeader, AuditFault>
+) -> Result<FileHeader<ConnectionWalk>, AuditFault>
     requires { IsUnread reader.old }
     ensures read { IfOk result (HasReadCapture (R.remaining reader.old.source.reader) reader.new) }
     ensures err { IfErr result (λ e. IsReadingFault e reader.new) }
@@ -54,7 +57,7 @@ fn read_in_chunks<T: Threads, R: Read>(
     hash: TableHash,
     ahead: &mut ChunksAhead<'_, T>,
     reader: &mut CaptureReader<R>,
-) -> Result<FileHeader, ReadFault>
+) -> Result<FileHeader<ConnectionWalk>, ReadFault>
     requires { IsUnread reader.old }
     ensures read { IfOk result (HasReadCapture (R.remaining reader.old.source.reader) reader.new) }
     ensures err { IfErr result (λ e. accounted.IsReadingFault e reader.new) }
@@ -73,8 +76,59 @@ fn read_in_chunks<T: Threads, R: Read>(
     }
 }
 
+/// Reads to the end, or until there are 2^31 bytes, and has what comes met by a walk: of the bytes nothing is kept but
+/// the file header. Returns the refusal of that, or the walk.
+pub(crate) fn read_and_let_go<R: Read>(
+    rt: &(impl Threads + Sync + RandomSource),
+    alloc: Global,
+    reader: &mut CaptureReader<R>,
+) -> Result<FileHeader<PacketWalk<MetCapture>>, AuditFault>
+    requires { IsUnread reader.old }
+    ensures read { IfOk result (HasMetCapture (R.remaining reader.old.source.reader) reader.new) }
+    ensures err { IfErr result (λ e. IsReadingFault e reader.new) }
+{
+    let mut ahead = ChunksAhead::new(rt, alloc, 1);
+    let met = MetCapture::new(alloc, TableHash::drawn(rt));
+    let read = meet(alloc, met, &mut ahead, reader);
+    ahead.finish();
+    match read {
+        Ok(read) => Ok(read),
+        Err(ReadFault::Failed(_)) => Err(AuditFault::Read),
+        Err(ReadFault::OutOfMemory) => Err(AuditFault::OutOfMemory),
+    }
+}
+
+/// Reads a capture whose packets are met as they come, and returns what its file header gives.
+fn meet<T: Threads, R: Read>(
+    alloc: Global,
+    met: MetCapture,
+    ahead: &mut ChunksAhead<'_, T>,
+    reader: &mut CaptureReader<R>,
+) -> Result<FileHeader<PacketWalk<MetCapture>>, ReadFault>
+    requires unread { IsUnread reader.old }
+    requires none { HasMetPackets [] met }
+    ensures read { IfOk result (HasMetCapture (R.remaining reader.old.source.reader) reader.new) }
+    ensures err { IfErr result (λ e. accounted.IsReadingFault e reader.new) }
+{
+    keep_up_to(ahead, reader, FILE_HEADER)?;
+    let begun = PacketWalk::begin(alloc, reader.in_one_slice(), met);
+    if reader.has_ended() {
+        return Ok(header_by(begun));
+    }
+    match begun {
+        Ok(mut walk) => {
+            let read = walk_and_let_go(alloc, reader, &mut walk);
+            behind_read(read, FileHeader::Taken(walk))
+        }
+        Err(refusal) => behind_read(pass_over(reader), FileHeader::Refused(refusal)),
+    }
+}
+
 /// What the file header gives, where all behind it was read.
-fn behind_read(read: Result<(), ReadFault>, header: FileHeader) -> Result<FileHeader, ReadFault>
+fn behind_read<W: Drop>(
+    read: Result<(), ReadFault>,
+    header: FileHeader<W>,
+) -> Result<FileHeader<W>, ReadFault>
     ensures ok { IfOk result (λ given. (read ≡ Ok tt) × (given ≡ header)) }
     ensures err { IfErr result (λ e. read ≡ Err e) }
 {
@@ -83,9 +137,9 @@ fn behind_read(read: Result<(), ReadFault>, header: FileHeader) -> Result<FileHe
 }
 
 /// The walk or the refusal that the beginning of a capture gives.
-fn header_by(begun: Result<ConnectionWalk, PcapFault>) -> FileHeader
-    ensures { (kept : List ℕ) → IfOk begun (IsConnectionWalkIn kept) → IfErr begun (λ e. refusal kept ≡ Some e)
-        → IsHeaderOf kept result }
+fn header_by<W>(begun: Result<W, PcapFault>) -> FileHeader<W>
+    ensures taken { IfOk begun (λ walk. result ≡ header.Taken walk) }
+    ensures refused { IfErr begun (λ e. result ≡ header.Refused e) }
 {
     match begun {
         Ok(walk) => FileHeader::Taken(walk),

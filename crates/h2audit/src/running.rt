@@ -1,23 +1,26 @@
-ghost use Rattle.std.specs.Prelude.{◌≡◌, IfErr, IfOk, OnOk};
+ghost use Rattle.std.specs.Prelude.{◌≡◌, ℕ, ◌^◌, ◌≤◌, IfErr, IfOk, List, OnOk, false, length};
 ghost use Rattle.std.specs.Io.KnownBytes.{Appends};
 ghost use Rattle.input_output.specs.Account.{IsReadToEnd, IsUnread, IsUnwritten, kept, written};
 ghost use Rattle.h2audit.specs.Account.{HasGiven, IsBrief, Tells};
-ghost use Rattle.h2audit.specs.Report.{IsReport};
-ghost use Rattle.h2audit.specs.code.Reading.{IsAuditingFault, IsHeaderOf};
+ghost use Rattle.h2audit.specs.Report.{IsNoReport, IsReport};
+ghost use Rattle.h2audit.specs.code.Reading.{IsAuditingFault, IsHeaderOf, IsMetHeaderOf};
 ghost use Rattle.h2audit.specs.code.Writing.{IsWritten};
 
-use crate::auditing::{audit_chunks, team_of};
+use crate::auditing::{audit_chunks, report_met, team_of};
 use crate::command_line::Options;
 use crate::fault::AuditFault;
-use crate::reading::{FileHeader, read_capture};
+use crate::met_captures::MetCapture;
+use crate::reading::{FileHeader, read_and_let_go, read_capture};
 use crate::verdict::Verdict;
 use input_output::{CaptureReader, ReportWriter};
+use packet_heads::PacketWalk;
 use report_pages::Report;
 use std::alloc::Global;
 use std::io::{Read, Write};
 use std::random::RandomSource;
 use std::thread::Threads;
 use stop_desk::{Gate, Team};
+use tcp_streams::ConnectionWalk;
 
 /// Reads a capture to its end, audits it, writes its report and flushes once.
 ///
@@ -43,10 +46,48 @@ pub fn run<R: Read, W: Write>(
     ensures brief { IsReadToEnd reader.new → IsBrief reader.new }
     ensures taken { Appends (W.contents writer.old.writer) (W.contents writer.new.writer) (written writer.new) }
 {
+    if options.audits_as_read() {
+        return run_as_read(rt, alloc, reader, writer);
+    }
     let header = read_capture(rt, alloc, options.workers(), reader)?;
     let team = team_of(rt, alloc, options, gate);
     let (text, verdict) = audit_kept(&team, options, reader, header)?;
     write_out(rt, text, verdict, writer)
+}
+
+/// Reads a capture to its end, audits it as it is read, without credits, writes its report and flushes once.
+fn run_as_read<R: Read, W: Write>(
+    rt: &(impl Threads + Sync + RandomSource),
+    alloc: Global,
+    reader: &mut CaptureReader<R>,
+    writer: &mut ReportWriter<W>,
+) -> Result<Verdict, AuditFault>
+    requires unread { IsUnread reader.old }
+    requires unwritten { IsUnwritten writer.old }
+    ensures tells { Tells reader.new writer.new false result }
+    ensures given { HasGiven (R.remaining reader.old.source.reader) reader.new }
+    ensures brief { IsReadToEnd reader.new → IsBrief reader.new }
+    ensures taken { Appends (W.contents writer.old.writer) (W.contents writer.new.writer) (written writer.new) }
+{
+    let header = read_and_let_go(rt, alloc, reader)?;
+    let (text, verdict) = report_behind(alloc, header)?;
+    write_out(rt, text, verdict, writer)
+}
+
+/// The report of a capture that was met as it was read, or the refusal that was read.
+fn report_behind(
+    alloc: Global,
+    header: FileHeader<PacketWalk<MetCapture>>,
+) -> Result<(Report, Verdict), AuditFault>
+    requires { (capture : List ℕ) × IsMetHeaderOf capture header × (length capture ≤ 2 ^ 31) }
+    ensures report { (capture : List ℕ) → IsMetHeaderOf capture header
+        → IfOk result (λ r. IsReport capture false r.0 r.1) }
+    ensures refused { (capture : List ℕ) → IsMetHeaderOf capture header → IfErr result (λ e. IsNoReport capture e) }
+{
+    match header {
+        FileHeader::Taken(walk) => report_met(alloc, walk.end()),
+        FileHeader::Refused(refusal) => Err(AuditFault::Pcap(refusal)),
+    }
 }
 
 /// Writes a text as it is spelled and flushes once, and returns this verdict where that went well.
@@ -71,7 +112,7 @@ fn audit_kept<T: Threads + Sync, G: Gate, R: Read>(
     team: &Team<'_, T, G>,
     options: &Options,
     reader: &mut CaptureReader<R>,
-    header: FileHeader,
+    header: FileHeader<ConnectionWalk>,
 ) -> Result<(Report, Verdict), AuditFault>
     requires { IsHeaderOf (kept reader.old) header }
     ensures same { OnOk result (reader.new ≡ reader.old) }

@@ -1,4 +1,4 @@
-ghost use Rattle.std.specs.Prelude.{◌≡◌, ◌<◌, SomeIff, option_map};
+ghost use Rattle.std.specs.Prelude.{◌≡◌, ◌<◌, IsTrue, SomeIff, false, option_map};
 ghost use Rattle.h2audit.specs.code.Options.{AreInRange};
 
 /// How a capture is audited and what its report shows.
@@ -76,5 +76,11 @@ impl Options {
         ensures { result ≡ (choices self.now).frames_shown }
     {
         self.frames_shown
+    }
+    /// Whether a capture is audited as it is read, and let go of: one worker does so where no credits are shown.
+    pub(crate) fn audits_as_read(&self) -> bool
+        ensures { IsTrue result → self.now.frames_shown ≡ false }
+    {
+        self.workers == 1 && !self.frames_shown
     }
 }

@@ -1,35 +1,23 @@
 use Rattle.std.proofs.Common.{◌≡◌, ℕ, arith, ◌∙◌, sym, List, ◌++◌, length, subst, ap}
-use Rattle.std.specs.List.{enumerate_from}
 use Rattle.std.proofs.lemmas.List.{length-map}
 use Rattle.std.proofs.lemmas.Result.{IfOk-weaker}
 use Rattle.std.proofs.lemmas.Slice.Zip.{AllZip-long}
-use Rattle.std.proofs.lemmas.List.FromFn.{length-enumerate_from}
 use Rattle.audit_report.specs.CaptureLines.{capture_text}
 use Rattle.audit_report.specs.Section.{sections_text}
 use Rattle.h2audit.specs.code.Headings.{heading_of}
 use Rattle.audit_report.specs.code.Packets.{AreRecordsOf}
 use Rattle.report_pages.specs.declared.told.Told.{Told}
-use Rattle.packet_heads.specs.Decision.{packet_decision, packet_decisions}
 use Rattle.packet_heads.specs.code.Walk.{packets_in}
 use Rattle.packet_heads.specs.declared.packets.Packet.{Packet}
-use Rattle.pcap_records.specs.declared.pcap_record.Record.{Record}
 use Rattle.stop_desk.specs.declared.parts.Part.{Part}
 use Rattle.tcp_streams.specs.declared.members.Connection.{Connection}
 use Rattle.tcp_streams.specs.declared.members.Stray.{Stray}
 use Rattle.tcp_streams.specs.Membership.{AreConnections, strays_of}
 use Rattle.h2audit.specs.Report.{packets_of}
 use Rattle.h2audit.specs.code.Flows.{AreToldAudits, IsToldFlows}
-use Rattle.h2audit.proofs.Opened.{opened-few}
+use Rattle.h2audit.proofs.Opened.{decisions-length, opened-few}
 use Rattle.h2audit.proofs.Flows.{told-orderly}
 use Rattle.h2audit.proofs.auditing.audit_records.Goals as goal
-
--- there is a packet for each record
-decisions-length : (link : ℕ) (rows : List Record) (capture : List ℕ)
-    → length (packet_decisions link rows capture) ≡ length rows
-decisions-length link rows capture =
-    length-map (enumerate_from 1 rows)
-    (λ (numbered : ℕ × Record). packet_decision link numbered.0 numbered.1 capture)
-    ∙ length-enumerate_from 1 rows
 
 pub lines_and_flows-requires-clause-few : goal.lines_and_flows-requires-clause-few
 lines_and_flows-requires-clause-few g c κs within =

@@ -4,7 +4,7 @@ use Rattle.pcap_records.specs.Refusal.{refusal}
 use Rattle.input_output.specs.Account.{given, kept}
 use Rattle.input_output.proofs.CallLemmas.{gives-more, gives-trans}
 use Rattle.input_output.proofs.Kept.{gave_front, read_to_end}
-use Rattle.h2audit.proofs.Kept.{header_answers, header_stays, whole_answers}
+use Rattle.h2audit.proofs.Kept.{header_answers, header_of, header_stays, whole_answers}
 use Rattle.h2audit.proofs.reading.read_in_chunks.Goals as goal
 
 pub returns-then-has_ended-clause-read : goal.returns-then-has_ended-clause-read
@@ -21,7 +21,8 @@ returns-then-has_ended-clause-read g c =
       ok = read_to_end now read.ended.sound size (λ unended. search rules);
       answers = whole_answers now same;
       brief = λ _. c.keep_up_to.ensures.grown.room;
-      header = c.header_by.ensures (kept now) (rw c.in_one_slice.ensures at c.begin-begun.ensures.ok)
+      header = header_of (kept now) c.begin-begun.result c.header_by.result c.header_by.ensures.taken
+          c.header_by.ensures.refused (rw c.in_one_slice.ensures at c.begin-begun.ensures.ok)
           (rw c.in_one_slice.ensures at c.begin-begun.ensures.err);
     }
 
