@@ -29,7 +29,7 @@ fn has_jobs(
 }
 
 /// Whether an audit by each of some numbers of workers has so many jobs in each round. One worker has none after that
-/// of the flows: it meets the frames one by one.
+/// of the flows: it meets the frames one by one. Where credits are not shown it does so as segments come, and has none.
 fn have_jobs(
     rt: &(impl Sync + Threads + RandomSource),
     alloc: Global,
@@ -37,7 +37,7 @@ fn have_jobs(
     capture: &Capture,
     want: [u32; 4],
 ) -> bool {
-    let alone = [want[0], 0, 0, 0];
+    let alone = [if frames_shown { want[0] } else { 0 }, 0, 0, 0];
     for (workers, want) in [(1, alone), (2, want), (64, want)] {
         let options = Options::of(workers, groups, block, frames_shown);
         if !has_jobs(rt, alloc, options, 0, capture, want) {

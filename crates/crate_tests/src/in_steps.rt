@@ -1,4 +1,5 @@
-//! Runs over readers and writers that go in steps or fail: which calls they get, and what the accounts tell.
+//! Runs over readers and writers that go in steps or fail: which calls they get, and what the accounts tell. One worker
+//! lets go of what comes behind the file header, several keep it.
 
 ghost use Rattle.input_output.specs.Account.{IsUnread, IsUnwritten};
 
@@ -69,21 +70,23 @@ fn has_kept(alloc: Global, reader: &CaptureReader<Pieces>, bytes: &[u8]) -> bool
 fn answer_of(
     rt: &(impl Sync + Threads + RandomSource),
     alloc: Global,
+    workers: u32,
     reader: &mut CaptureReader<Pieces>,
     writer: &mut ReportWriter<Slow>,
 ) -> Option<Result<Verdict, AuditFault>>
     requires unread { IsUnread reader.old }
     requires unwritten { IsUnwritten writer.old }
 {
-    let options = Options::of(4, 16, 4096, false)?;
+    let options = Options::of(workers, 16, 4096, false)?;
     let gate = TestGate::holding(0);
     Some(run(rt, alloc, &options, reader, writer, &gate))
 }
 
-/// Whether a run comes to what is wanted.
+/// Whether a run by so many workers comes to what is wanted.
 fn goes_so(
     rt: &(impl Sync + Threads + RandomSource),
     alloc: Global,
+    workers: u32,
     reader: Pieces,
     writer: Slow,
     (wanted, calls, written): Wanted,
@@ -91,9 +94,13 @@ fn goes_so(
     let whole = reader.left;
     let mut reader = CaptureReader::new(alloc, reader);
     let mut writer = ReportWriter::new(writer);
-    let at_most = if wanted == BAD_MAGIC { 24 } else { usize::MAX };
+    let at_most = if workers == 1 || wanted == BAD_MAGIC {
+        24
+    } else {
+        usize::MAX
+    };
     let report = &REPORT.as_bytes()[..written.min(REPORT.len())];
-    answer_of(rt, alloc, &mut reader, &mut writer) == Some(wanted)
+    answer_of(rt, alloc, workers, &mut reader, &mut writer) == Some(wanted)
         && calls_of(reader.reader(), writer.writer()) == Some(calls)
         && is_read(alloc, &reader, whole, at_most)
         && writer.writer().taken.as_slice() == report
@@ -101,10 +108,10 @@ fn goes_so(
 
 /// 24 bytes in steps of 5 are five reads, and one more finds the end.
 pub fn slow_steps(rt: &(impl Sync + Threads + RandomSource), alloc: Global) -> Answer {
-    for (step, writes) in [(1, 82), (3, 28), (1000, 1)] {
+    for (workers, step, writes) in [(4, 1, 82), (4, 3, 28), (4, 1000, 1), (1, 3, 28)] {
         let writer = writer(alloc, step, Failure::Never);
         let wanted = (Ok(Verdict::Clean), [6, writes, 1], 82);
-        if !goes_so(rt, alloc, reader(5, 0), writer, wanted) {
+        if !goes_so(rt, alloc, workers, reader(5, 0), writer, wanted) {
             return Ok(false);
         }
     }
@@ -113,10 +120,12 @@ pub fn slow_steps(rt: &(impl Sync + Threads + RandomSource), alloc: Global) -> A
 
 /// The read that fails is the last call: that the next would go on is not tried.
 pub fn interrupted_reader(rt: &(impl Sync + Threads + RandomSource), alloc: Global) -> Answer {
-    for failing in 1..=6 {
-        let wanted = (Err(AuditFault::Read), [failing, 0, 0], 0);
-        if !goes_so(rt, alloc, reader(5, failing), whole(alloc), wanted) {
-            return Ok(false);
+    for workers in [1, 4] {
+        for failing in 1..=6 {
+            let wanted = (Err(AuditFault::Read), [failing, 0, 0], 0);
+            if !goes_so(rt, alloc, workers, reader(5, failing), whole(alloc), wanted) {
+                return Ok(false);
+            }
         }
     }
     Ok(true)
@@ -128,33 +137,51 @@ pub fn failing_writer(rt: &(impl Sync + Threads + RandomSource), alloc: Global) 
         let written = 3 * (at as usize - 1);
         for failure in [Failure::Interrupted(at), Failure::TakesNone(at)] {
             let wanted = (Err(AuditFault::Write), [2, at, 0], written);
-            if !goes_so(rt, alloc, reader(24, 0), writer(alloc, 3, failure), wanted) {
+            if !goes_so(
+                rt,
+                alloc,
+                4,
+                reader(24, 0),
+                writer(alloc, 3, failure),
+                wanted,
+            ) {
                 return Ok(false);
             }
         }
     }
     let slow = writer(alloc, 10, Failure::Interrupted(2));
     let wanted = (Err(AuditFault::Write), [2, 2, 0], 10);
-    Ok(goes_so(rt, alloc, reader(24, 0), slow, wanted))
+    Ok(goes_so(rt, alloc, 1, reader(24, 0), slow, wanted))
 }
 
 pub fn failing_flush(rt: &(impl Sync + Threads + RandomSource), alloc: Global) -> Answer {
     let slow = writer(alloc, 1000, Failure::Flush);
     let wanted = (Err(AuditFault::Write), [2, 1, 1], 82);
-    Ok(goes_so(rt, alloc, reader(24, 0), slow, wanted))
+    Ok(goes_so(rt, alloc, 1, reader(24, 0), slow, wanted))
 }
 
 pub fn refused_capture(rt: &(impl Sync + Threads + RandomSource), alloc: Global) -> Answer {
-    let reader = Pieces::of(&FILE_HEADER[..23], 24, 0);
-    let refused = Err(AuditFault::Pcap(PcapFault::ShortHeader));
-    Ok(goes_so(rt, alloc, reader, whole(alloc), (refused, [2, 0, 0], 0)))
+    for workers in [1, 4] {
+        let reader = Pieces::of(&FILE_HEADER[..23], 24, 0);
+        let refused = Err(AuditFault::Pcap(PcapFault::ShortHeader));
+        let wanted = (refused, [2, 0, 0], 0);
+        if !goes_so(rt, alloc, workers, reader, whole(alloc), wanted) {
+            return Ok(false);
+        }
+    }
+    Ok(true)
 }
 
 /// Of 100,000 bytes in steps of 9 the first 24 take three reads and are kept; the rest is read and passed over.
 pub fn refused_header(rt: &(impl Sync + Threads + RandomSource), alloc: Global) -> Answer {
     let mut capture: Vec<u8> = Vec::new(alloc);
     capture.resize(100_000, 7)?;
-    let reader = Pieces::of(capture.as_slice(), 9, 0);
-    let wanted = (BAD_MAGIC, [11_113, 0, 0], 0);
-    Ok(goes_so(rt, alloc, reader, whole(alloc), wanted))
+    for workers in [1, 4] {
+        let reader = Pieces::of(capture.as_slice(), 9, 0);
+        let wanted = (BAD_MAGIC, [11_113, 0, 0], 0);
+        if !goes_so(rt, alloc, workers, reader, whole(alloc), wanted) {
+            return Ok(false);
+        }
+    }
+    Ok(true)
 }

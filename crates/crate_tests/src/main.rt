@@ -47,8 +47,8 @@ pub type Answer = Result<bool, AllocError>;
 /// The names of some tests, and what they answer.
 type Answers<const N: usize> = [(&'static str, Answer); N];
 
-/// Keys, texts and looks, and ways to what is found.
-fn of_parts(rt: &impl RandomSource, alloc: Global) -> Answers<8> {
+/// Keys, texts and looks.
+fn of_parts(rt: &impl RandomSource, alloc: Global) -> Answers<6> {
     [
         ("drawn_keys", keys::drawn_keys(rt)),
         ("each_kind_of_packet", texts::each_kind_of_packet(alloc)),
@@ -56,13 +56,11 @@ fn of_parts(rt: &impl RandomSource, alloc: Global) -> Answers<8> {
         ("looks_of_a_block", looks::looks_of_a_block(alloc)),
         ("looks_of_a_stream", looks::looks_of_a_stream(alloc)),
         ("looks_at_no_change", looks::looks_at_no_change(alloc)),
-        ("made_segments", found_ways::made_segments(alloc)),
-        ("random_segments", found_ways::random_segments(alloc)),
     ]
 }
 
-/// Runs over readers and writers, and what several workers write.
-fn of_runs(rt: &(impl Sync + Threads + RandomSource), alloc: Global) -> Answers<7> {
+/// Runs over readers and writers, and what one worker and several write.
+fn of_runs(rt: &(impl Sync + Threads + RandomSource), alloc: Global) -> Answers<9> {
     [
         ("slow_steps", in_steps::slow_steps(rt, alloc)),
         (
@@ -74,6 +72,8 @@ fn of_runs(rt: &(impl Sync + Threads + RandomSource), alloc: Global) -> Answers<
         ("refused_capture", in_steps::refused_capture(rt, alloc)),
         ("refused_header", in_steps::refused_header(rt, alloc)),
         ("pages_of_several", many_pages::pages_of_several(rt, alloc)),
+        ("made_segments", found_ways::made_segments(rt, alloc)),
+        ("random_segments", found_ways::random_segments(rt, alloc)),
     ]
 }
 
