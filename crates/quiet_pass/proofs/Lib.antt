@@ -15,4 +15,3 @@ mod WholeLemmas
 mod AllLemmas
 mod FoundLemmas
 mod RoomLemmas
-mod OpenedLemmas

@@ -1,11 +1,8 @@
-//! What is shown of a connection, said while its segments come, and of each connection of a capture.
+//! What is shown of a connection, said while its segments come.
 
 ghost use Rattle.std.specs.Prelude.{ℕ, List, IfOk, OnOk};
-ghost use Rattle.packet_heads.specs.code.Order.{AreNumberedFrom};
-ghost use Rattle.packet_heads.specs.declared.packets.Packet.{Packet};
 ghost use Rattle.packet_heads.specs.declared.packets.Segment.{Segment as Opening};
-ghost use Rattle.quiet_pass.specs.code.FoundFlows.{AreFoundOf, HasMetSent, IsFoundOfSent};
-ghost use Rattle.tcp_streams.specs.code.Opened.{AreVisited};
+ghost use Rattle.quiet_pass.specs.code.FoundFlows.{HasMetSent, IsFoundOfSent};
 ghost use Rattle.tcp_streams.specs.code.SentFlows.{HaveFlows};
 ghost use Rattle.tcp_streams.specs.code.Side.{Sent};
 
@@ -13,7 +10,6 @@ use crate::found_visitor::{FoundCut, FoundVisitor};
 use h2_frames::ConnectionFrames;
 use packet_heads::Segment;
 use std::alloc::{AllocError, Global};
-use tcp_streams::laws::flows_are_those_sent;
 use tcp_streams::{ConnectionVisitor, FlowEnd};
 
 /// A connection while its segments come, whose frames are met as soon as their bytes are there, where credits are not
@@ -76,26 +72,4 @@ impl ConnectionFindings {
             server: handed.server,
         })
     }
-}
-
-/// What is found of each connection of a capture, in order of opening, where a stage that was handed all its packets
-/// leaves these (`tcp_streams::ConnectionStage::into_parts`).
-///
-/// Of both flows that `tcp_streams::assemble` gives of a connection, it says what [`crate::found_connection`] does, and
-/// where they end.
-pub fn found_of_each(
-    alloc: Global,
-    opened: Vec<ConnectionFindings>,
-) -> Result<Vec<FoundFlows>, AllocError>
-    requires { (capture : List ℕ) × (packets : List Packet) × AreVisited HasMetSent capture packets opened.items }
-    ensures { (capture : List ℕ) (packets : List Packet) → AreNumberedFrom 1 packets
-        → AreVisited HasMetSent capture packets opened.items
-        → IfOk result (λ found. AreFoundOf capture packets found.items) }
-{
-    flows_are_those_sent();
-    let mut found = Vec::with_capacity(alloc, opened.len())?;
-    for connection in opened {
-        found.push(connection.finish(alloc)?)?;
-    }
-    Ok(found)
 }

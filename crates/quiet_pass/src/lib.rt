@@ -19,9 +19,8 @@
 //! - [`ConnectionFindings`] does this while segments come: the machine visits the frames that `h2_frames` hands on, and
 //!   keeps of a connection what it and that stage keep. At the end it answers what `found_connection` does of the flows
 //!   that these segments have, with its contract (`IsFoundOf`), and where the flows end. It is a
-//!   `tcp_streams::ConnectionVisitor`: a `ConnectionStage` of it goes over the packets of a capture, as they come, and
-//!   [`found_of_each`] tells of both flows of each connection, in order of opening (`AreFoundOf`). There is no list of
-//!   flows or frames. No report is made by it yet.
+//!   `tcp_streams::ConnectionVisitor`, so that a stage goes over the packets of a capture, as they come. There is no
+//!   list of flows or frames.
 //! - Streams are gone through in the order of rows, and the definitions say in that of their first frames. Findings are
 //!   put in order by place, so the order makes no difference, nor do streams of which nothing is shown.
 //! - It keeps of each side's last frame whether a field block goes on after it, and of which stream.
@@ -71,7 +70,7 @@ mod shift_ranges;
 mod shifted_rows;
 mod whole_streams;
 
-pub use connection_findings::{ConnectionFindings, FoundFlows, found_of_each};
+pub use connection_findings::{ConnectionFindings, FoundFlows};
 pub use found_connections::{FoundConnection, found_connection};
 pub use found_visitor::FoundCut;
 pub use quiet_connections::{QuietConnection, quiet_connection};

@@ -1,21 +1,13 @@
--- A connection of which something may be shown, while its segments come, and each connection of a capture.
-use Rattle.std.specs.List.{AllZip}
+-- A connection of which something may be shown, while its segments come.
 use Rattle.std.specs.Prelude.{ℕ, List, Some}
 use Rattle.audit_terms.specs.declared.frames.Frame.{Frame}
-use Rattle.audit_terms.specs.declared.sides.Side.TheVariants.{Client, Server}
-use Rattle.audit_terms.specs.declared.sides.Sides.{Sides}
 use Rattle.h2_frames.specs.Cut.{IsCut}
 use Rattle.h2_frames.specs.code.ConnectionFrames.{EndsSo, HasTakenSent}
 use Rattle.h2_frames.specs.declared.cuts.Cut.TheVariants.{NoHandshake as CutNoHandshake, NoPreface as CutNoPreface}
 use Rattle.h2_frames.specs.declared.cuts.Cut.TheVariants.{NotHttp2 as CutNotHttp2}
-use Rattle.packet_heads.specs.declared.packets.Packet.{Packet}
 use Rattle.packet_heads.specs.declared.packets.Segment.{Segment}
-use Rattle.tcp_streams.specs.Flow.{IsFlowFrom}
-use Rattle.tcp_streams.specs.Members.{initial_of, side_segments}
-use Rattle.tcp_streams.specs.Membership.{IsConnectionOf, belongings, openings}
 use Rattle.tcp_streams.specs.code.{SentFlows.AreFlowsSent, Side.AreSentIn, Side.Sent}
 use Rattle.tcp_streams.specs.declared.flows.Flow.{Flow}
-use Rattle.tcp_streams.specs.declared.members.Connection.{Connection}
 use Rattle.quiet_pass.specs.code.FoundConnections.{IsFoundOf}
 use Rattle.quiet_pass.specs.code.FoundPass.{IsFoundAfter}
 use Rattle.quiet_pass.specs.declared.connection_findings.ConnectionFindings.{ConnectionFindings}
@@ -51,22 +43,3 @@ abbrev pub IsFoundOfSent : (opening : Segment) → List Sent → FoundFlows → 
 IsFoundOfSent opening sent all =
     (capture : List ℕ) (client server : Flow) → AreSentIn (Some capture) sent
     → AreFlowsSent capture opening sent client server → AreFoundFlows client server all
-
--- both flows of a connection of a capture with these packets, as `tcp_streams::assemble` gives them
-pub record AreFlowsIn
-    (capture : List ℕ) (packets : List Packet) (connection : Connection) (client server : Flow) : Type 0 where
-  pub client_is : IsFlowFrom (initial_of connection Client) capture (side_segments packets connection Client) client
-  pub server_is : IsFlowFrom (initial_of connection Server) capture (side_segments packets connection Server) server
-
--- so it is of the connection that a SYN opened: it has two flows, and whichever these are, this is found of them
-pub record IsFoundOfOpening (capture : List ℕ) (packets : List Packet) (opening : Segment) (all : FoundFlows)
-    : Type 0 where
-  pub flows : (connection : Connection) → IsConnectionOf (belongings packets) opening connection
-      → (flows : Sides Flow) × AreFlowsIn capture packets connection flows.client flows.server
-  pub found : (connection : Connection) (client server : Flow)
-      → IsConnectionOf (belongings packets) opening connection
-      → AreFlowsIn capture packets connection client server → AreFoundFlows client server all
-
--- and of the connection of each opening, in order
-abbrev pub AreFoundOf : List ℕ → List Packet → List FoundFlows → Type 0
-AreFoundOf capture packets found = AllZip (IsFoundOfOpening capture packets) (openings (belongings packets)) found
