@@ -114,6 +114,16 @@ class Outcomes(unittest.TestCase):
     """Each connection of a capture is in the map."""
 
     def test_mixed(self) -> None:
+        """What tshark shows of each connection, by its packets; -d tcp.port==21118,http2 shows the one in the clear.
+
+        1, 2: a SYN, and an RST for an answer: no-handshake.
+        3 to 8: the client says nothing and ends; the server sent SETTINGS, 15 bytes: no-preface, 0 and 15 bytes.
+        9 to 31: 11 frames; mixed.records has 118 and 20,195 bytes; by these no line of a window.
+        32 to 49: ALPN http/1.1, no HTTP/2; records of 83 and 20,242 bytes: not-http2.
+        50 to 70: a ClientHello whose random is not in mixed.keys: refused no-key.
+        71 to 88: 23 frames in the clear, 246 and 100,181 bytes; by these no line of a window.
+        89 to 107: 9 frames; records of 117 and 5,176 bytes; by these no line of a window.
+        """
         lines = [line.split(" packet ")[1] for line in tools.lines_of(made_of("mixed"), "connection")]
         suite = "TLS_AES_256_GCM_SHA384"
         self.assertEqual(lines, [
