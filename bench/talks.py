@@ -16,7 +16,7 @@ Pairs = tuple[tuple[int, int], ...]
 
 
 class Dice(random.Random):
-    """The same numbers each time."""
+    """Draws the same numbers each time."""
 
     def between(self, low: int, high: int) -> int:
         """Both are included."""

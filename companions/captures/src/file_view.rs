@@ -23,7 +23,7 @@ impl FileView {
         FileView { file: Some(file), ..FileView::of_bytes(Vec::new()) }
     }
 
-    /// Of what would stand in a file.
+    /// A view of bytes that would stand in a file.
     pub fn of_bytes(bytes: Vec<u8>) -> FileView {
         FileView { file: None, filled: bytes.len(), bytes, begin: 0, most: LEAST_READ }
     }

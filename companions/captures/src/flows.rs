@@ -53,7 +53,7 @@ pub struct Flow {
 #[derive(Debug, Default)]
 struct Held {
     pieces: BinaryHeap<Reverse<Piece>>,
-    /// Of the longest piece that is held, by its offset.
+    /// How long the longest piece is that is held at an offset.
     lengths: HashMap<u32, usize>,
     cost: usize,
     /// How many pieces came. Their packets need not have rising numbers.

@@ -193,7 +193,7 @@ pub struct Interface {
 }
 
 impl Interface {
-    /// Of the body of an Interface Description Block.
+    /// What the body of an Interface Description Block says.
     pub fn of(order: Order, body: &[u8]) -> Result<Interface, Error> {
         if body.len() < 8 {
             return Err(Error::refused("bad-block"));
@@ -212,7 +212,7 @@ pub struct PacketHead {
 }
 
 impl PacketHead {
-    /// Of the body of an Enhanced Packet Block, or of a Packet Block of old.
+    /// What the body of an Enhanced Packet Block says, or of a Packet Block of old.
     pub fn of(block: &Block<'_>) -> Result<PacketHead, Error> {
         let (order, body) = (block.order, block.body());
         if body.len() < PACKET_HEAD {

@@ -46,7 +46,7 @@ impl Source {
         Source::new(opened(path)?)
     }
 
-    /// The same, of which it is told how many bytes are read, as the file has them.
+    /// Opens a file, and tells how many of its bytes are read, as it has them.
     pub fn open_counted(path: &OsStr, count: fn(u64)) -> Result<Source, Error> {
         Source::new(Box::new(Counted { file: opened(path)?, count }))
     }

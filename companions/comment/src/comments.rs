@@ -16,7 +16,7 @@ const MOST_BYTES: usize = 4 << 20;
 #[derive(Default)]
 pub struct Findings {
     pub notes: Vec<Note>,
-    /// Of overruns, by the number of the note, the packets that set the window.
+    /// The packets that set the windows of overruns, by the number of the note.
     pub setters: HashMap<usize, Setters>,
     /// The names of other files than the capture, by their numbers in a map.
     pub files: HashMap<u64, Vec<u8>>,

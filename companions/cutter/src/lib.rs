@@ -153,13 +153,13 @@ impl Cutter {
         self.preface == PREFACE.len()
     }
 
-    /// Of the frame whose rest did not come, where its header did: its stream, and when its packets came.
+    /// The stream of the frame whose rest did not come, where its header did, and when its packets came.
     #[inline]
     pub fn cut_frame(&self) -> Option<(u32, &[Nanos])> {
         (self.begun == HEADER).then(|| (Head::of(&self.header).stream, &self.times[..]))
     }
 
-    /// The same frame with as much of its payload as is wanted, as it stands at the end.
+    /// That frame with as much of its payload as is wanted, as it stands at the end.
     pub fn unfinished(&self) -> Option<Cut<'_>> {
         let Cutter { header, kept, times, arrived, .. } = self;
         (self.begun == HEADER).then(|| Cut { head: Head::of(header), payload: kept, times, arrived })

@@ -35,7 +35,7 @@ impl Name {
     ];
     /// Those that tell a request from others, wherever it goes.
     pub const IDS: [Name; 2] = [Name::RequestId, Name::TraceParent];
-    /// Of the longest of them.
+    /// How many bytes the longest of them has.
     pub(crate) const MOST_BYTES: usize = 12;
 
     pub const fn text(self) -> &'static str {
@@ -79,7 +79,7 @@ enum Bytes {
 }
 
 impl Value {
-    /// Of the static table.
+    /// A value of the static table.
     pub(crate) fn known(octets: &'static [u8]) -> Value {
         Value(Bytes::Known(octets))
     }

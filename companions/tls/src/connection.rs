@@ -28,7 +28,7 @@ pub struct Shared {
     /// Whether more keys may come in the capture.
     pub more_keys: bool,
     pub sessions: Sessions,
-    /// Of what opens connections whose hellos were not seen.
+    /// The search for what opens connections whose hellos were not seen.
     pub search: Search,
     /// Where the content of a record stands while it is handed on.
     room: Vec<u8>,
@@ -89,7 +89,7 @@ pub struct TlsConnection {
 }
 
 impl TlsConnection {
-    /// Of this number; connections count in the order of openings.
+    /// A connection with this number; connections count in the order of openings.
     pub fn new(number: u64, shared: &Shared) -> TlsConnection {
         TlsConnection {
             handshake: Handshake::new(number, shared.more_keys),

@@ -29,7 +29,7 @@ const LABELS: [(&[u8], Label); 6] = [
     (b"CLIENT_TRAFFIC_SECRET_0", Label::ClientTraffic),
     (b"SERVER_TRAFFIC_SECRET_0", Label::ServerTraffic),
 ];
-/// Of these every server has one, and of those every client.
+/// The labels of a client's and of a server's secrets, for the handshake and for what follows.
 pub const OF_SIDES: [[Label; 2]; 2] =
     [[Label::ClientHandshake, Label::ClientTraffic], [Label::ServerHandshake, Label::ServerTraffic]];
 

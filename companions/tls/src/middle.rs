@@ -72,7 +72,7 @@ impl Default for Middle {
 }
 
 impl Middle {
-    /// Of sides of which this opened the next record, before some of them was lost.
+    /// For sides whose next record these secrets opened, before some of them was lost.
     pub fn behind(before: Vec<FoundSecret>) -> Middle {
         Middle { before, ..Middle::default() }
     }

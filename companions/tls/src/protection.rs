@@ -43,11 +43,11 @@ enum Way {
 /// How nonce and additional data of an AEAD are built.
 #[derive(Clone, Copy, PartialEq)]
 enum Nonce {
-    /// Of TLS 1.3: sequence number in the IV, the header as additional data (RFC 8446, 5.2 and 5.3).
+    /// TLS 1.3: sequence number in the IV, the header as additional data (RFC 8446, 5.2 and 5.3).
     Tls13,
-    /// Of POLY1305 in TLS 1.2: sequence number in the IV (RFC 7905, 2).
+    /// POLY1305 in TLS 1.2: sequence number in the IV (RFC 7905, 2).
     Poly1305,
-    /// Of GCM and CCM in TLS 1.2: the record begins with the later part of it (RFC 5288, 3; RFC 6655, 3).
+    /// GCM and CCM in TLS 1.2: the record begins with the later part of it (RFC 5288, 3; RFC 6655, 3).
     Explicit,
 }
 
@@ -117,7 +117,7 @@ impl Opener {
         Ok(Opener { sequence: 0, way: way.map_err(|_| Reason::CipherSuite(suite.code))? })
     }
 
-    /// Of the next record.
+    /// The number of the next record.
     pub fn number(&self) -> u64 {
         self.sequence
     }

@@ -44,8 +44,8 @@ pub fn sealed_in(mut bytes: &[u8]) -> Vec<Sealed<'_>> {
 }
 
 impl<'a> Sample<'a> {
-    /// Of records that follow each other. A tag costs as much as the record is long, and after a key update keys are
-    /// others: so of all pairs that have no update first, the one with the shortest record is taken.
+    /// A sample of records that follow each other. A tag costs as much as the record is long, and after a key update
+    /// keys are others: so of all pairs that have no update first, the one with the shortest record is taken.
     pub fn of(records: &[Sealed<'a>]) -> Option<Sample<'a>> {
         let end = records.iter().position(|record| record.header[0] != APPLICATION_DATA);
         let records = &records[..end.unwrap_or(records.len())];

@@ -49,7 +49,7 @@ impl Default for Search {
 }
 
 impl Search {
-    /// Of record numbers below this one, and for so many seconds in all.
+    /// A search of record numbers below this one, for so many seconds in all.
     pub fn new(numbers: u64, seconds: u64) -> Search {
         Search { numbers, seconds, spent: Duration::default() }
     }

@@ -40,7 +40,7 @@ pub struct Suite {
 }
 
 impl Suite {
-    /// Of an AEAD.
+    /// The length of an AEAD's tag.
     pub(crate) fn tag_length(&self) -> usize {
         if self.mode == Mode::Ccm8 {
             8

@@ -100,7 +100,7 @@ fn cuts(name: &str) -> impl Iterator<Item = (u64, Vec<Cut>)> + '_ {
     tenths.chain([1, 7, 13, 25, packets - 9]).map(move |before| (before, read(name, before).0))
 }
 
-/// Of each side, all records behind the cut are read but the first ones, so many at most: what the cut divides.
+/// All records of each side behind the cut are read but the first ones, so many at most: what the cut divides.
 fn check(name: &str, most: usize) {
     let (all, mut count) = (rows(name), 0);
     for (before, connections) in cuts(name) {

@@ -32,7 +32,7 @@ pub struct End<'a> {
     numbers: [Vec<u32>; 2],
     times: [Vec<Nanos>; 2],
     contents: [Vec<u64>; 2],
-    /// Of each frame, its index among those of its side.
+    /// The index of each frame among those of its side.
     indices: Vec<u32>,
     grants: HashMap<(Side, u32), Grants>,
 }
@@ -286,7 +286,7 @@ fn handshake_bounds(client: &End<'_>, server: &End<'_>) -> Option<Bounds> {
     Some(Bounds { most: other.syn? - one.syn?, least: other.syn_ack? - one.syn_ack? })
 }
 
-/// The same by the handshake and by the quickest frame of each direction: no packet arrives before it was sent.
+/// Bounds by the handshake and by the quickest frame of each direction: no packet arrives before it was sent.
 fn bounds_of(client: &End<'_>, server: &End<'_>) -> Result<Bounds, Apart> {
     let shaken = handshake_bounds(client, server);
     let took = |side: Side| client.of_side(side).zip(server.of_side(side)).map(|(here, there)| there.time - here.time);

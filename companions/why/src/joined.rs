@@ -164,7 +164,7 @@ fn evidence_words(one: &Assumed, cause: &Cause, said: &ConnectionSaid) -> String
     }
 }
 
-/// Of two windows, the stream's first.
+/// What is said of two windows, the stream's first.
 fn either_words(one: &Assumed) -> String {
     let other = match (one.what, one.with) {
         (What::Connection, Some(What::Stream(stream))) => format!("the window of stream {stream}"),

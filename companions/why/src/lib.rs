@@ -54,7 +54,7 @@ pub enum Form {
     Text(Look),
     /// One document of JSON.
     Document,
-    /// The same for a page, with charts and the requests that it shows.
+    /// The document for a page, with charts and the requests that it shows.
     Charts,
     /// A line of JSON for each request.
     Lines,

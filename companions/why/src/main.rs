@@ -216,7 +216,7 @@ fn look_of(asked: &Asked) -> Look {
     Look { has_colours, width, is_all: asked.is_all, has_all_legs: asked.legs == LegsAsked::All }
 }
 
-/// Of two captures there is text, or one document.
+/// Two captures are told as text, or as one document.
 fn look_of_two(asked: &Asked) -> Option<Look> {
     match asked.form {
         Asks::Document => None,

@@ -11,7 +11,7 @@ use reports::{grouped, Side};
 use crate::joined::mark;
 use crate::wording::{count, percent, rate_of, streams_named, time_of};
 
-/// Of two durations the second is told where it is so much more.
+/// A second duration is told where it is longer than the first one by so much.
 const MORE: Nanos = 1_000_000;
 
 /// The phrases of one connection's requests. Those that waited for the connection's window name each other.
@@ -79,7 +79,7 @@ impl<'a> Phrases<'a> {
         format!("stalled {} in all ({}){often}", time_of(nanos), percent(nanos, request.nanos()))
     }
 
-    /// Of a request of which no stall is known.
+    /// What is said of a request of which no stall is known.
     fn unstalled(&self, request: &Request) -> &'static str {
         let may_be_stalled = |joined: &JoinedSaid| joined.may_be_stalled(request);
         match self.said.joined.as_deref().map_or(false, may_be_stalled) {
@@ -205,7 +205,7 @@ impl<'a> Phrases<'a> {
         }
     }
 
-    /// Of the connection's window: which stream holds it, which waited, and how long it was used up in all.
+    /// Which stream holds the connection's window, which waited, and how long it was used up in all.
     fn of_connection(&self, request: &Request) -> String {
         let (cause, mut text) = (&request.cause, String::new());
         if let Some(Holder { stream, bytes, of, .. }) = self.waits.holder(cause).copied() {

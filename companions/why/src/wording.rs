@@ -55,7 +55,7 @@ pub fn percent(part: Nanos, whole: Nanos) -> String {
     text
 }
 
-/// The same, behind a text.
+/// Puts a part of a whole in percent behind a text.
 pub fn put_percent(text: &mut String, part: Nanos, whole: Nanos) {
     let (part, whole) = (i128::from(part), i128::from(whole));
     match whole {

@@ -46,10 +46,10 @@ pub enum Asks {
     Windows(PathBuf),
 }
 
-/// Of which requests both legs are told.
+/// For which requests both legs are told.
 #[derive(Clone, Copy, Debug, Default, PartialEq, Eq)]
 pub enum LegsAsked {
-    /// Of front requests that were slow.
+    /// For front requests that were slow.
     #[default]
     Slow,
     All,

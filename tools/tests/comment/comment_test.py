@@ -156,7 +156,7 @@ class Examples(InFolder):
             self.assertEqual({int(number) for (number,) in found}, wanted, name)
 
     def test_packets_that_set_a_window(self) -> None:
-        """Of an overrun, where the report has credit lines: the packet of the opening, and those of grants."""
+        """For an overrun, where the report has credit lines: the packet of the opening, and those of grants."""
         report = EXAMPLES / "stream_overrun_go.frames.report"
         said = comments(self.comment(EXAMPLES / "stream_overrun_go.pcap", report))[12]
         self.assertIn("5,000 bytes past its credit on stream 1, a window that packet 12 set (stream-overrun)", said)

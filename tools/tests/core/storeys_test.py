@@ -119,7 +119,7 @@ class Lemmas(unittest.TestCase):
             self.assertEqual(others, set(), file.relative_to(CRATES))
 
     def test_along_uses(self) -> None:
-        """Of a crate that its line in crates.txt names, and of a public module right in proofs/."""
+        """A proof cites lemmas of crates that its line in crates.txt names, in public modules right in proofs/."""
         for file in files("proofs"):
             own = file.relative_to(CRATES).parts[0]
             for crate, room, path in cited(file):

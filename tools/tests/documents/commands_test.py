@@ -162,7 +162,7 @@ class Names(unittest.TestCase):
                 self.assertIn(ESCAPED.removesuffix(".txt"), said)
 
     def test_empty_folder(self) -> None:
-        """And so it is in the line that says that a folder holds nothing."""
+        """It is escaped too in the line that says that a folder holds nothing."""
         with tempfile.TemporaryDirectory() as folder:
             empty = os.path.join(os.fsencode(folder), HOSTILE)
             os.mkdir(empty)

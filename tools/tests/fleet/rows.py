@@ -64,7 +64,7 @@ def rows_by_hand(report: str, end: int | None = None) -> dict[str, list[Row]]:
 
 
 def lines_of(report: str, end: int | None = None) -> str:
-    """The same as h2audit-any writes them."""
+    """The rows of a report, as h2audit-any writes them."""
     heads = [int(word) for word in report.partition("\n")[0].split()[2::2]]
     rows = [("captures", *heads)] + [(table, *row) for table, rows in rows_by_hand(report, end).items() for row in rows]
     return "h2audit-rows 3\n" + "".join(json.dumps(row) + "\n" for row in rows)

@@ -87,7 +87,7 @@ class Rows(unittest.TestCase):
             return machine.ask("SELECT connection, nanos FROM open_stalls ORDER BY connection")
 
     def test_last_packet(self) -> None:
-        """Of either side, with tags or none; not one of UDP, or of another connection."""
+        """It is of either side, with tags or none; not one of UDP, nor of another connection."""
         packets = [
             (1, packet(CLIENT, SERVER, SYN)),
             (5, packet(SERVER, CLIENT, SYN | ACK)),
@@ -101,7 +101,7 @@ class Rows(unittest.TestCase):
         self.assertEqual(self.last_packets(report, capture(packets)), [(1, 10)])
 
     def test_opened_again(self) -> None:
-        """The same endpoints open several connections: each lasts up to the next."""
+        """Two endpoints open several connections: each lasts up to the next."""
         openings = (2, 5, 8)
         packets = [(time, packet(CLIENT, SERVER, SYN if time in openings else ACK)) for time in range(1, 10)]
         packets = [(time, one[:38] + bytes([time]) + one[39:]) for time, one in packets]  # numbers of their own

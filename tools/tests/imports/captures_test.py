@@ -66,7 +66,7 @@ class Records(unittest.TestCase):
                 self.assertEqual(tools.rows_of(made_of(name)), path.read_text().splitlines())
 
     def test_other_forms(self) -> None:
-        """The same connection with its secrets inside, and compressed."""
+        """A connection whose secrets are inside the capture, and one that is compressed, is read as it was."""
         wanted = (tools.CAPTURES / "small-window-v6.records").read_text().splitlines()
         for name in ("secrets-inside", "zstd"):
             self.assertEqual(tools.rows_of(made_of(name)), wanted)

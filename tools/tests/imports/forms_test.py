@@ -288,7 +288,7 @@ def disturbed(packets: list[tools.Packet], dice: random.Random, window: int) -> 
 
 class Order(unittest.TestCase):
     def test_disturbed(self) -> None:
-        """The same plaintext of both sides, whatever the order of their packets."""
+        """The plaintext of both sides is one, whatever the order of their packets."""
         seed = random.randrange(1 << 32)
         dice = random.Random(seed)
         for name in (NAME, "curl-apache-upload", "key-updates"):

@@ -68,7 +68,7 @@ class Cuts(unittest.TestCase):
         self.judge(tallied(FOLDERS), 800, 10)
 
     def test_held_out(self) -> None:
-        """The same bounds where no threshold was set."""
+        """These bounds hold where no threshold was set."""
         self.judge(tallied(HELD_OUT), 200, 3)
 
     def judge(self, tally: Tally, connections: int, unjoined: int) -> None:

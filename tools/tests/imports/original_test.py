@@ -72,7 +72,7 @@ class OfOriginals(unittest.TestCase):
         return self.read.read_text().splitlines()
 
     def test_same(self) -> None:
-        """Of all captures, as they stand, and cut within a packet."""
+        """All captures, as they stand, and cut within a packet."""
         folders = (tools.EXAMPLES, tools.TOP / "tests" / "answer", tools.TOP / "tests" / "corpus")
         captures = [path for folder in folders for path in sorted(folder.glob("*.pcap")) if path.stem != TWICE]
         stood = 0

@@ -35,7 +35,7 @@ class Answers(OnCaptures):
         return cause
 
     def between(self, low: float, nanos: int, high: float) -> None:
-        """Of milliseconds."""
+        """The bounds are in milliseconds."""
         self.assertTrue(low * MS <= nanos <= high * MS, nanos / MS)
 
     def test_slow_first_answer(self) -> None:

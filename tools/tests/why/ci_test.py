@@ -81,7 +81,7 @@ ALONE_ONLY = ("tcp", "error", "status", "joined-fault")
 
 
 def slower(octets: bytes, step: int = SECOND // 10) -> bytes:
-    """The same capture, with so many microseconds from each record to the next, and TCP windows that are wide."""
+    """A capture with so many microseconds from each record to the next, and with wide TCP windows."""
     made, at, number = bytearray(octets[:24]), 24, 0
     while at < len(octets):
         kept = struct.unpack_from("<I", octets, at + 8)[0]

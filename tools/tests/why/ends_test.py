@@ -229,7 +229,7 @@ class Generated(BothEnds):
             self.assertEqual(ran(*words).returncode, 2, words)
 
     def test_one_place(self) -> None:
-        """The same capture twice: each stall as it stands there, and no clock is ahead."""
+        """One capture for both ends: each stall as it stands there, and no clock is ahead."""
         for path in sorted((TOP / "examples").glob("*.pcap")):
             run = ran("--json", "--ends", path, path)
             if run.returncode == 3:  # captured at a side, which cannot be both

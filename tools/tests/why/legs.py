@@ -59,7 +59,7 @@ class Row:
 
 
 def each(letter: str, was_set: str, names: dict[str, Script], **more: Any) -> list[Row]:
-    """The same of several proxies."""
+    """Rows that set one thing at several proxies."""
     return [
         Row(f"{letter}_{name}", why_proxies.PROXIES[name.split("_")[0]], was_set, script, **more)
         for name, script in names.items()

@@ -89,7 +89,7 @@ def thinks(stage: Stage) -> list[Truth]:
 
 
 def thinks_forwarded(stage: Stage) -> list[Truth]:
-    """The same through what hands on TCP's bytes: there is one connection, which is seen twice."""
+    """An upstream that thinks, behind what hands on TCP's bytes: one connection is seen twice."""
     thinks(stage)
     return []
 

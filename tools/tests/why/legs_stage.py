@@ -102,7 +102,7 @@ class Stage:
 
     @contextlib.contextmanager
     def meanwhile(self, *requests: Request, at_once: int = 1, clients: int = 1) -> Iterator[None]:
-        """The same, while something else is done."""
+        """Clients ask for these requests while something else is done."""
         asking = threading.Thread(target=self.asks, args=requests, kwargs={"at_once": at_once, "clients": clients})
         asking.start()
         try:

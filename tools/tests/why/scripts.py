@@ -111,7 +111,7 @@ def grants_at_once(server: Server, window: str = "stream") -> Script:
 
 
 def behind_proxy(server: Server, round_trip: float) -> Script:
-    """The same through a proxy that ends TCP, so that TCP's own round trip is short."""
+    """A small window behind a proxy that ends TCP, so that TCP's own round trip is short."""
 
     def make(stage: Stage) -> float:
         with stage.serving(server) as port, proxy_to(port, round_trip) as near:

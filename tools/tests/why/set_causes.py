@@ -86,7 +86,7 @@ def row(name: str, peers: str, was_set: str, make: Script, like: Like, **more: A
 def each(
     name: str, servers: tuple[Server, ...], was_set: str, make: Callable[[Server], Script], like: Like
 ) -> list[Row]:
-    """The same of several servers, asked by a client that writes its frames itself."""
+    """Rows that set one thing at several servers; the client writes its frames itself."""
     return [row(f"{name}_{server.__name__}", server.__name__, was_set, make(server), like) for server in servers]
 
 

@@ -24,7 +24,7 @@ PINGS: list[Event] = [(LATER, "C", frame(6, 0, 0, bytes(8))), (LATER, "S", frame
 
 
 def first_records(path: pathlib.Path, number: int) -> pathlib.Path:
-    """The same capture up to a record."""
+    """A capture up to a record."""
     octets, at = path.read_bytes(), 24
     for _ in range(number):
         at += 16 + int(struct.unpack_from("<I", octets, at + 8)[0])
@@ -172,7 +172,7 @@ class JUnit(BothEnds):
         self.assertEqual((len(said), sum("the server stalled for" in text for text in said)), (20, 20))
 
     def test_one_place(self) -> None:
-        """The same examples twice; those that were made at one side are refused, and no file is written."""
+        """Each example as both captures; those that were made at one side are refused, and no file is written."""
         for path in sorted((TOP / "examples").glob("*.pcap")):
             file = self.folder / "junit.xml"
             file.unlink(missing_ok=True)

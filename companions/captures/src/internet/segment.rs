@@ -27,7 +27,7 @@ pub struct Segment<'a> {
     pub acknowledgement: u32,
     pub flags: u8,
     pub window: u16,
-    /// Of the datagram of IPv4; 0 of IPv6, which has none.
+    /// That of the IPv4 datagram; 0 with IPv6, which has none.
     pub identification: u16,
     /// Where the payload begins and ends in the datagram.
     pub start: usize,
