@@ -11,9 +11,8 @@ import subprocess
 import sys
 import tempfile
 
-from bench.generate import SHAPES
 from bench.measure import once
-from bench.wire import Capture
+from bench.measure_companions import capture_of, report_of
 from tools.tests.browser import Browser
 
 TOP = pathlib.Path(__file__).resolve().parents[1]
@@ -25,20 +24,6 @@ OPENINGS = 5
 # them: what it takes would count for the next.
 WRITTEN = {"stalls": "large(400, 2400, 20)", "60,000": "crowded(60000, 7, 50)"}
 WRITE = "import sys; from tools.tests.page.page_test import crowded, large; sys.stdout.write({})"
-
-
-def capture_of(folder: pathlib.Path, shape: str, megabytes: int) -> pathlib.Path:
-    path = folder / "capture.pcap"
-    with open(path, "wb", buffering=1 << 20) as file:
-        SHAPES[shape](Capture(file), megabytes * 1000000)
-    return path
-
-
-def report_of(program: str, capture: pathlib.Path, *more: str) -> pathlib.Path:
-    path = capture.with_suffix(".report")
-    with open(path, "wb") as file:
-        subprocess.run([program, *more, capture], stdout=file, check=False)
-    return path
 
 
 def measure_page(browser: Browser, shape: str, report: pathlib.Path) -> None:

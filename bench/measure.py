@@ -152,14 +152,16 @@ def sizes_of(shape: str, generator: str | None) -> tuple[float, ...]:
     return next(sizes for shapes, sizes in SIZES if SHAPES[shape] in shapes)
 
 
-def found(name: str | None) -> str | None:
+def program_named(name: str) -> str:
     """The program of this name, by a path that holds everywhere."""
-    if name is None:
-        return None
     path = shutil.which(name)
     if path is None:
         refuse("there is no program %s" % name)
     return os.path.abspath(path)
+
+
+def found(name: str | None) -> str | None:
+    return None if name is None else program_named(name)
 
 
 def asked_for() -> argparse.Namespace:

@@ -16,7 +16,6 @@ import argparse
 import os
 import pathlib
 import re
-import shutil
 import subprocess
 import sys
 import tempfile
@@ -25,7 +24,7 @@ from collections.abc import Iterable
 from typing import NamedTuple
 
 from bench.generate import SHAPES
-from bench.measure import Run, best, generate, refuse
+from bench.measure import Run, best, generate, program_named, refuse
 
 TOP = pathlib.Path(__file__).resolve().parents[1]
 PAGE = TOP / "tools" / "h2audit-page"
@@ -222,20 +221,13 @@ def shown(goal: float) -> str:
     return "%.3g" % goal if goal else "-"
 
 
-def program(name: str) -> str:
-    path = shutil.which(name)
-    if path is None:
-        refuse("there is no program %s" % name)
-    return os.path.abspath(path)
-
-
 def asked_for() -> argparse.Namespace:
     words = argparse.ArgumentParser(description=__doc__, formatter_class=argparse.RawDescriptionHelpFormatter)
     for name in ("--why", "--any", "--h2audit"):
-        words.add_argument(name, required=True, type=program, metavar="PROGRAM")
-    words.add_argument("--page", default=str(PAGE), type=program, metavar="PROGRAM")
-    words.add_argument("--tshark", default="tshark", type=program, metavar="PROGRAM")
-    words.add_argument("--before", type=program, metavar="PROGRAM")
+        words.add_argument(name, required=True, type=program_named, metavar="PROGRAM")
+    words.add_argument("--page", default=str(PAGE), type=program_named, metavar="PROGRAM")
+    words.add_argument("--tshark", default="tshark", type=program_named, metavar="PROGRAM")
+    words.add_argument("--before", type=program_named, metavar="PROGRAM")
     words.add_argument("--runs", type=int, default=3)
     words.add_argument("--shapes", default=",".join(GOALS))
     words.add_argument("megabytes", nargs="*", type=float, default=[42])

@@ -6,6 +6,7 @@ from typing import TYPE_CHECKING, BinaryIO
 
 from h2audit.plot.windows import Place, PlottedConnection, PlottedWindow
 from h2audit.report.charts import Finding
+from h2audit.report.words import count
 
 if TYPE_CHECKING:  # loaded where it draws: what is wrong with words or report is said sooner, and where it is missing
     from matplotlib.axes import Axes
@@ -59,7 +60,7 @@ def draw(windows: list[PlottedWindow], left_out: int, by_frame: bool, title: str
     if title:
         figure.suptitle(plain(title), fontsize=11)
     draw_legend(panels[0], windows)
-    note = f"\n{left_out} more windows: choose with --connection, --stream or --panels" if left_out else ""
+    note = f"\n{count(left_out, 'more window')}: choose with --connection, --stream or --panels" if left_out else ""
     panels[-1].set_xlabel(axis.label + note, fontsize=8)
     return figure
 

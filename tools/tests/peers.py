@@ -15,7 +15,7 @@ import threading
 import time
 import unittest
 from collections import deque
-from collections.abc import Callable, Iterator
+from collections.abc import Callable, Iterator, Sequence
 from typing import Protocol
 
 PREFACE = b"PRI * HTTP/2.0\r\n\r\nSM\r\n\r\n"
@@ -152,35 +152,24 @@ def proxy_to(port: int, round_trip: float) -> Iterator[int]:
 
 
 @contextlib.contextmanager
-def captured(path: pathlib.Path, *ports: int) -> Iterator[None]:
-    """Captures the packets of some ports on loopback, whole."""
-    ways = " or ".join(f"tcp port {port}" for port in ports)
-    words = [
-        "tcpdump",
-        "-i",
-        "lo",
-        "-U",
-        "--immediate-mode",
-        "-s",
-        "0",
-        "-B",
-        "65536",
-        "-Z",
-        "root",
-        "-w",
-        str(path),
-        ways,
-    ]
-    child = subprocess.Popen(words, stderr=subprocess.PIPE)
+def dumping(path: pathlib.Path, *words: str, within: Sequence[str] = (), wait: float | None = None) -> Iterator[None]:
+    """tcpdump writes whole packets meanwhile, and so long after, or until the file grows no more."""
+    # A packet takes a slot of 256 KiB at once, so of the usual buffer a busy machine loses some.
+    options = ["-U", "--immediate-mode", "-s", "0", "-B", "65536", "-Z", "root", "-w", str(path)]
+    child = subprocess.Popen([*within, "tcpdump", *options, *words], stderr=subprocess.PIPE)
     assert child.stderr
     child.stderr.readline()
     try:
         yield
-        settle(path)
+        settle(path) if wait is None else time.sleep(wait)
     finally:
         child.terminate()
-        child.wait()
-        child.stderr.close()
+        child.communicate()
+
+
+def captured(path: pathlib.Path, *ports: int) -> contextlib.AbstractContextManager[None]:
+    """Captures the packets of some ports on loopback."""
+    return dumping(path, "-i", "lo", " or ".join(f"tcp port {port}" for port in ports))
 
 
 def settle(path: pathlib.Path) -> None:

@@ -5,13 +5,16 @@ import os
 import pathlib
 import shutil
 import subprocess
+import sys
 import tempfile
 import unittest
 from collections import Counter
+from collections.abc import Callable
 from typing import Any
 
 from tests.programs import named
 from tools.tests.companions import companion
+from tools.tests.peers import can_capture
 from tools.tests.report_lines import Finding, Opening, Stall, read_lines
 
 TOP = pathlib.Path(__file__).resolve().parents[2]
@@ -53,6 +56,28 @@ def programs_of(words: list[str]) -> list[str]:
 def has_programs() -> bool:
     """Whether h2audit-why is there, the program that it runs, and the one that imports as it does."""
     return WHY.exists() and all(os.environ.get(name) or shutil.which(path.name) for name, path in BUILT.items())
+
+
+def checked_written_or_made(
+    readme: pathlib.Path, text_of: Callable[[], str], make: Callable[[list[str], bool], int]
+) -> int:
+    """What the command line of a test asks for: --write writes a document, --make or --keep makes captures of these
+    names anew, or the tests run."""
+    sys.argv = programs_of(sys.argv)
+    os.environ["PATH"] += ":/usr/sbin:/sbin"
+    if not has_programs():
+        sys.exit("h2audit or h2audit-import is not built")
+    words = sys.argv[1:]
+    if words[:1] == ["--write"]:
+        readme.write_text(text_of())
+        return 0
+    if words[:1] in (["--make"], ["--keep"]):
+        if not can_capture:
+            print("nothing is made: tcpdump needs root")
+            return 0
+        return make(words[1:], words[0] == "--keep")
+    unittest.main()
+    return 0
 
 
 def ran(*words: str | pathlib.Path, stdin: bytes | None = None) -> subprocess.CompletedProcess[bytes]:

@@ -411,15 +411,11 @@ class Large(Imported):
         self.by_one_worker("--requests")
         cluster = Cluster(self.machine)
         self.addCleanup(cluster.stop)
-        cluster.scheduler("127.0.0.1")
-        for _ in range(2):
-            cluster.worker()
-        cluster.wait_for(2)
+        two = cluster.of_two()
         (self.machine.folder / "shared").mkdir()
-        tls = ("--tls-ca", "authority.pem", "--tls-cert", "client.pem", "--tls-key", "client.key")
         for words in (("--scratch", "shared"), ()):
             self.machine.database.unlink(missing_ok=True)
-            found = self.machine.run("--scheduler", cluster.address, *tls, *SPLIT, "--requests", *words, "captures")
+            found = self.machine.run(*two, *SPLIT, "--requests", *words, "captures")
             self.assertEqual(found[::2], (1, ""))
             self.check_requests()
             self.assertEqual(list((self.machine.folder / "shared").iterdir()), [])

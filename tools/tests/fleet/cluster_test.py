@@ -124,6 +124,15 @@ class Cluster:
             before=before,
         )
 
+    def of_two(self) -> tuple[str, ...]:
+        """Starts a scheduler and two workers, and answers the words by which h2audit-fleet reaches them."""
+        self.scheduler("127.0.0.1")
+        for _ in range(2):
+            self.worker()
+        self.wait_for(2)
+        tls = ("--tls-ca", "authority.pem", "--tls-cert", "client.pem", "--tls-key", "client.key")
+        return ("--scheduler", self.address, *tls)
+
     def wait_for(self, workers: int) -> None:
         """Until so many workers say that they have found their scheduler."""
         until(

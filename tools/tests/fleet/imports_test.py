@@ -252,16 +252,12 @@ class OnCluster(Imported):
         self.instead("h2audit", PROGRAM, "case $* in *part*) echo $PPID >> workers ;; esac")
         cluster = Cluster(self.machine)
         self.addCleanup(cluster.stop)
-        cluster.scheduler("127.0.0.1")
-        for _ in range(2):
-            cluster.worker()
-        cluster.wait_for(2)
+        two = cluster.of_two()
         (self.machine.folder / "shared").mkdir()
-        tls = ("--tls-ca", "authority.pem", "--tls-cert", "client.pem", "--tls-key", "client.key")
         for words, workers in ((("--scratch", "shared"), 2), ((), 1)):
             self.machine.database.unlink(missing_ok=True)
             (self.machine.folder / "workers").unlink(missing_ok=True)
-            found = self.machine.run("--scheduler", cluster.address, *tls, *SPLIT, *words, "captures")
+            found = self.machine.run(*two, *SPLIT, *words, "captures")
             self.assertEqual(found[::2], (1, ""))
             self.assertEqual(self.everything(), self.everything("whole.sqlite"))
             self.assertEqual(len(set((self.machine.folder / "workers").read_text().split())), workers)

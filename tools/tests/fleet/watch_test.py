@@ -16,7 +16,6 @@ import signal
 import sqlite3
 import subprocess
 import tempfile
-import time
 import unittest
 import zlib
 from collections import Counter
@@ -32,7 +31,7 @@ from h2audit.fleet.tasks import TaskAnswer
 from h2audit.fleet.watched import OPEN, SCHEMA, Part, Watched, path_of_stretch
 from tools.tests.companions import companion
 from tools.tests.fleet.captures import PATIENCE, PROGRAM, TOP, Machine, until
-from tools.tests.peers import RawClient, can_capture, folder_to_serve, nghttpd
+from tools.tests.peers import RawClient, can_capture, dumping, folder_to_serve, nghttpd
 
 RUNS = ("$H2AUDIT BesideTcpdump", "$H2AUDIT Files Carrying Rings")
 QUICK = ("$H2AUDIT Files Carrying Rings",)
@@ -154,19 +153,9 @@ def at_once(files: list[pathlib.Path]) -> dict[str, Counter[tuple[object, ...]]]
     return found
 
 
-@contextlib.contextmanager
-def ring_of(folder: pathlib.Path, port: int) -> Iterator[None]:
+def ring_of(folder: pathlib.Path, port: int) -> contextlib.AbstractContextManager[None]:
     """tcpdump, which begins another file after each megabyte."""
-    words = ["-i", "lo", "-U", "--immediate-mode", "-s", "0", "-B", "65536", "-Z", "root", "-C", "1", "-W", "90"]
-    child = subprocess.Popen(["tcpdump", *words, "-w", folder / "cap.pcap", f"tcp port {port}"], stderr=subprocess.PIPE)
-    assert child.stderr
-    child.stderr.readline()
-    try:
-        yield
-        time.sleep(1)
-    finally:
-        child.terminate()
-        child.communicate()
+    return dumping(folder / "cap.pcap", "-i", "lo", "-C", "1", "-W", "90", f"tcp port {port}", wait=1)
 
 
 def waiting_client(port: int) -> Iterator[None]:

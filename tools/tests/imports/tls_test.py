@@ -23,11 +23,12 @@ import sys
 import tempfile
 import time
 import unittest
-from collections.abc import Iterable, Iterator, Sequence
+from collections.abc import Iterable, Sequence
 
 from tests.programs import named
 from tools.tests import import_tools as tools
 from tools.tests import tls_talk
+from tools.tests.peers import dumping
 
 RUNS = ("$H2AUDIT",)
 TIMED = True
@@ -329,20 +330,8 @@ class Servers(Folder):
         client.stdin.close()
         client.wait(20)
 
-    @contextlib.contextmanager
-    def captured(self, name: str, port: int) -> Iterator[None]:
-        written = str(self.path(f"{name}.pcap"))
-        words = ["tcpdump", "-i", "lo", "-U", "--immediate-mode", "-w", written, f"tcp port {port}"]
-        tcpdump = subprocess.Popen(words, stderr=subprocess.PIPE)
-        assert tcpdump.stderr
-        tcpdump.stderr.readline()
-        try:
-            yield
-            time.sleep(0.5)
-        finally:
-            tcpdump.terminate()
-            tcpdump.wait()
-            tcpdump.stderr.close()
+    def captured(self, name: str, port: int) -> contextlib.AbstractContextManager[None]:
+        return dumping(self.path(f"{name}.pcap"), "-i", "lo", f"tcp port {port}", wait=0.5)
 
     def said(self, made: tools.Made) -> list[bytes]:
         return [data for _, _, data in tools.payloads(made)]

@@ -119,6 +119,14 @@ class InBrowser(unittest.TestCase):
     def said(self, figure: str = FIRST) -> str:
         return str(self.browser.run(SAID, figure))
 
+    def text_without_scripts(self, page: pathlib.Path) -> str:
+        self.browser.scripts(False)
+        try:
+            self.browser.load(page, "return document.readyState === 'complete'")
+            return str(self.find("body").text)
+        finally:
+            self.browser.scripts(True)
+
     def find(self, selector: str) -> WebElement:
         return self.browser.driver.find_element(By.CSS_SELECTOR, selector)
 
@@ -352,13 +360,7 @@ class Schemes(InBrowser):
 
     def test_without_scripts(self) -> None:
         report = (EXAMPLES / "stream_overrun_go.frames.report").read_text()
-        path = self.made(report)
-        self.browser.scripts(False)
-        try:
-            self.browser.load(path, "return document.readyState === 'complete'")
-            text = self.find("body").text
-        finally:
-            self.browser.scripts(True)
+        text = self.text_without_scripts(self.made(report))
         self.assertIn("client sent 5,000 bytes past its credit on stream 1", text)
         self.assertIn("Charts need JavaScript; the tables below do not.", text)
         self.assertNotIn("Charts over", text)

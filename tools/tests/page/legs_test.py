@@ -222,12 +222,7 @@ class Rows(OnScreens):
                 self.assertEqual(self.browser.run(ACCESSIBLE + "return lowContrast().low;"), [], (width, scheme))
 
     def test_without_scripts(self) -> None:
-        self.browser.scripts(False)
-        try:
-            self.browser.load(self.folder / "page.html", "return document.readyState === 'complete'")
-            text = self.find("body").text
-        finally:
-            self.browser.scripts(True)
+        text = self.text_without_scripts(self.folder / "page.html")
         for words in (
             "Ask the client 10.0.0.1:1 of GET /slow.",
             "ask the client of GET /slow",

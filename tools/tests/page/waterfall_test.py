@@ -176,12 +176,7 @@ class Waterfall(OfAnswers):
             self.assertEqual(self.browser.run(ACCESSIBLE + "return lowContrast().low;"), [])
 
     def test_without_scripts(self) -> None:
-        self.browser.scripts(False)
-        try:
-            self.browser.load(self.folder / "page.html", "return document.readyState === 'complete'")
-            text = self.find("body").text
-        finally:
-            self.browser.scripts(True)
+        text = self.text_without_scripts(self.folder / "page.html")
         self.assertIn("HUNG for 2 s: the client granted nothing", text)
         self.assertNotIn("Zoom in", text)
 

@@ -17,7 +17,7 @@ from contextlib import ExitStack
 from tests.captures import frame
 from tools.tests.peers import Peers, can_capture, process
 from tools.tests.why.both_ends import ASKED, GET, MS, PARTS, BothEnds, Event, ends, granted
-from tools.tests.why.wire import SERVER, Loses, captured_at, wire
+from tools.tests.why.wire import SERVER, Loses, captured_at, lost_for, wire
 from tools.tests.why_tools import TOP, Json, has_programs, programs_of, ran
 
 RUNS = ("$H2AUDIT Generated", "$H2AUDIT Wire")
@@ -326,26 +326,12 @@ class Wire(Peers):
 
     def test_lost_grants(self) -> None:
         """All that the client sends is lost for 1.5 seconds: its grants come late, and nobody is asked."""
-        since: list[float] = []
-
-        def loses(end: int, octets: bytes) -> bool:
-            if end == 1 and len(octets) > 1000:
-                since.append(time.monotonic())
-            return end == 0 and len(since) >= 60 and time.monotonic() < since[59] + 1.5
-
-        stall = self.longest(self.download("16", loses))
+        stall = self.longest(self.download("16", lost_for(1.5, end=0, number=60)))
         self.assertEqual((stall["verdict"], stall["ask"]), ("grant-delayed", None), stall)
 
     def test_lost_content(self) -> None:
         """All that the server sends is lost for 1.5 seconds: its content comes late, and nobody is asked."""
-        since: list[float] = []
-
-        def loses(end: int, octets: bytes) -> bool:
-            if end == 1 and len(octets) > 1000:
-                since.append(time.monotonic())
-            return end == 1 and len(since) >= 60 and time.monotonic() < since[59] + 1.5
-
-        found = self.download("16", loses)
+        found = self.download("16", lost_for(1.5, end=1, number=60))
         stall = self.longest(found)
         self.assertEqual((stall["verdict"], stall["ask"]), ("content-delayed", None), stall)
         (request,) = found["requests"]

@@ -19,12 +19,11 @@ from dataclasses import replace
 from functools import cache
 
 from tools.tests.import_tools import pcap_of, read_pcap
-from tools.tests.peers import can_capture
 from tools.tests.why.legs import ROWS, Row
 from tools.tests.why.legs_judge import Judgement
 from tools.tests.why.legs_made import LEGS, keep, kept, make
 from tools.tests.why.legs_page import page
-from tools.tests.why_tools import has_programs, programs_of
+from tools.tests.why_tools import checked_written_or_made
 
 RUNS = ("$H2AUDIT", "$H2AUDIT --make causes", "$H2AUDIT --make traffic")
 LIMIT = 2400
@@ -259,23 +258,5 @@ def make_all(names: list[str], is_kept: bool) -> int:
     return 1 if faults else 0
 
 
-def main() -> int:
-    sys.argv = programs_of(sys.argv)
-    os.environ["PATH"] += ":/usr/sbin:/sbin"
-    if not has_programs():
-        sys.exit("h2audit or h2audit-import is not built")
-    words = sys.argv[1:]
-    if words[:1] == ["--write"]:
-        README.write_text(page(judgement))
-        return 0
-    if words[:1] in (["--make"], ["--keep"]):
-        if not can_capture:
-            print("nothing is made: tcpdump needs root")
-            return 0
-        return make_all(words[1:], words[0] == "--keep")
-    unittest.main()
-    return 0
-
-
 if __name__ == "__main__":
-    sys.exit(main())
+    sys.exit(checked_written_or_made(README, lambda: page(judgement), make_all))

@@ -11,7 +11,7 @@ import time
 import unittest
 
 from tools.tests.peers import Peers, can_capture, process
-from tools.tests.why.wire import SERVER, Loses, captured_at, wire
+from tools.tests.why.wire import SERVER, Loses, captured_at, lost_for, wire
 from tools.tests.why_tools import Json, has_programs, programs_of, request_of, said_of
 
 RUNS = ("$H2AUDIT",)
@@ -56,15 +56,7 @@ class Ends(Peers):
 
     def test_loss(self) -> None:
         """Content that is lost for a second: TCP held it, and nobody is asked."""
-        since: list[float] = []
-
-        def loses(end: int, octets: bytes) -> bool:
-            """All that the server sends for a second, from its 40th large packet on."""
-            if end == 1 and len(octets) > 1000:
-                since.append(time.monotonic())
-            return end == 1 and len(since) >= 40 and time.monotonic() < since[39] + 1
-
-        here, there = self.both("-w24", "-W24", loses=loses)
+        here, there = self.both("-w24", "-W24", loses=lost_for(1, end=1, number=40))
         for one in (here, there):
             cause = request_of(one, "/large")["cause"]
             self.assertEqual((cause["kind"], cause["ask"]), ("tcp", None), cause)

@@ -18,10 +18,10 @@ import unittest
 from contextlib import ExitStack
 from dataclasses import dataclass
 
-from tools.tests.peers import can_capture, folder_to_serve
+from tools.tests.peers import folder_to_serve
 from tools.tests.why.set_causes import ROWS, Row
 from tools.tests.why.stage import Stage
-from tools.tests.why_tools import TOP, Json, has_programs, programs_of, said_of, text
+from tools.tests.why_tools import TOP, Json, checked_written_or_made, said_of, text
 
 RUNS = ("$H2AUDIT", "$H2AUDIT --make")
 TIMED = ("$H2AUDIT --make",)
@@ -251,23 +251,5 @@ def make(names: list[str], is_kept: bool) -> int:
     return 1 if wrong > MOST_WRONG * count else 0
 
 
-def main() -> int:
-    sys.argv = programs_of(sys.argv)
-    os.environ["PATH"] += ":/usr/sbin:/sbin"
-    if not has_programs():
-        sys.exit("h2audit or h2audit-import is not built")
-    words = sys.argv[1:]
-    if words[:1] == ["--write"]:
-        README.write_text(table())
-        return 0
-    if words[:1] in (["--make"], ["--keep"]):
-        if not can_capture:
-            print("nothing is made: tcpdump needs root")
-            return 0
-        return make(words[1:], words[0] == "--keep")
-    unittest.main()
-    return 0
-
-
 if __name__ == "__main__":
-    sys.exit(main())
+    sys.exit(checked_written_or_made(README, table, make))

@@ -19,6 +19,8 @@ import time
 from collections import deque
 from collections.abc import Callable, Iterator
 
+from tools.tests.peers import dumping
+
 CLIENT, SERVER = "10.98.0.1", "10.98.0.2"
 # From <linux/if_tun.h> and <linux/sched.h>.
 TUNSETIFF, TAP_WITHOUT_FRONT, NEW_NETWORK = 0x400454CA, 0x1002, 0x40000000
@@ -152,19 +154,18 @@ def wire(round_trip: float, loses: Loses = lambda _, __: False, bandwidth: float
         made.take_away()
 
 
-@contextlib.contextmanager
-def captured_at(made: Wire, end: int, path: pathlib.Path) -> Iterator[None]:
+def captured_at(made: Wire, end: int, path: pathlib.Path) -> contextlib.AbstractContextManager[None]:
     """Captures TCP at an end of the wire."""
-    # A packet takes a slot of 256 KiB at once, so of the usual buffer a busy machine loses some.
-    options = ["-i", "wire", "-U", "--immediate-mode", "-s", "0", "-B", "65536", "-Z", "root", "-w", str(path)]
-    words = [*made.within(end), "tcpdump", *options, "tcp"]
-    child = subprocess.Popen(words, stderr=subprocess.PIPE)
-    assert child.stderr
-    child.stderr.readline()
-    try:
-        yield
-        time.sleep(1)
-    finally:
-        child.terminate()
-        child.wait()
-        child.stderr.close()
+    return dumping(path, "-i", "wire", "tcp", within=made.within(end), wait=1)
+
+
+def lost_for(seconds: float, end: int, number: int) -> Loses:
+    """Loses all that an end sends for some seconds, from this large packet of the server on."""
+    since: list[float] = []
+
+    def loses(sender: int, octets: bytes) -> bool:
+        if sender == 1 and len(octets) > 1000:
+            since.append(time.monotonic())
+        return sender == end and len(since) >= number and time.monotonic() < since[number - 1] + seconds
+
+    return loses

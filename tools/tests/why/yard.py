@@ -8,12 +8,10 @@ import contextlib
 import os
 import pathlib
 import socket
-import subprocess
-import time
 from collections.abc import Iterator
 from dataclasses import dataclass, field
 
-from tools.tests.peers import Loopback, Place
+from tools.tests.peers import Loopback, Place, dumping
 from tools.tests.why.wire import Wire, ip, network, no_network, set_up, socket_in
 
 LARGEST_PACKET = 60_000
@@ -47,22 +45,11 @@ class Yard:
     wire: Wire | None = None
     ports: list[int] = field(default_factory=list)
 
-    @contextlib.contextmanager
-    def captured(self, path: pathlib.Path) -> Iterator[None]:
-        """Captures both legs at the proxy, whole; on loopback of these ports alone."""
+    def captured(self, path: pathlib.Path) -> contextlib.AbstractContextManager[None]:
+        """Captures both legs at the proxy; on loopback of these ports alone."""
         ways = "tcp" if self.within else " or ".join(f"tcp port {port}" for port in self.ports)
-        options = ["-U", "--immediate-mode", "-s", "0", "-B", "65536", "-Z", "root", "--time-stamp-precision=nano"]
-        words = [*self.within, "tcpdump", "-i", self.device, *options, "-w", str(path), ways]
-        child = subprocess.Popen(words, stderr=subprocess.PIPE)
-        assert child.stderr
-        child.stderr.readline()
-        try:
-            yield
-            time.sleep(0.4)
-        finally:
-            child.terminate()
-            child.wait()
-            child.stderr.close()
+        words = ("-i", self.device, "--time-stamp-precision=nano", ways)
+        return dumping(path, *words, within=self.within, wait=0.4)
 
 
 @contextlib.contextmanager
