@@ -13,7 +13,7 @@ from dataclasses import dataclass
 from math import gcd
 from typing import NamedTuple
 
-from h2audit.page.model import Audit, Connection, Others, Window
+from h2audit.page.model import Audit, ChartedConnection, ChartedWindow, Others
 from h2audit.page.series import Kind, Series, series_of, thinned
 from h2audit.report.charts import Note
 
@@ -47,7 +47,7 @@ class Packed:
     merged: int
     marks_in_report: int
     windows: int
-    left_out: list[Window]
+    left_out: list[ChartedWindow]
     # Those that were left out before.
     others: Others
 
@@ -78,7 +78,7 @@ class Fitting(NamedTuple):
     packed: bytes
 
 
-def fitting(audit: Audit, windows: list[Window], whole: list[Series], most: int) -> Fitting:
+def fitting(audit: Audit, windows: list[ChartedWindow], whole: list[Series], most: int) -> Fitting:
     """The first that is small enough: all points, fewer points, fewer marks, and at last fewer windows."""
     size = 0
     for level in LEVELS:
@@ -97,7 +97,7 @@ def fitting(audit: Audit, windows: list[Window], whole: list[Series], most: int)
     return found
 
 
-def estimated(audit: Audit, windows: list[Window], series: list[Series]) -> int:
+def estimated(audit: Audit, windows: list[ChartedWindow], series: list[Series]) -> int:
     """About the packed size, by that of some windows; 0 where all are so little that they can be packed to see it."""
     every, whole = len(windows) // SAMPLE, sum(map(numbers, series))
     if every < 2 or whole < FEW_NUMBERS:
@@ -112,16 +112,16 @@ def numbers(series: Series) -> int:
     return 7 + 3 * len(series.frames) + 3 * len(series.stalls) + 4 * len(series.faults)
 
 
-def cut(audit: Audit, windows: list[Window], series: list[Series]) -> Fitting:
+def cut(audit: Audit, windows: list[ChartedWindow], series: list[Series]) -> Fitting:
     elsewhere = faults_without_chart(windows)
     return Fitting(series, len(elsewhere), zlib.compress(json_of(audit, windows, series, elsewhere), LEVEL))
 
 
-def faults_without_chart(windows: list[Window]) -> list[tuple[Connection, Note]]:
+def faults_without_chart(windows: list[ChartedWindow]) -> list[tuple[ChartedConnection, Note]]:
     """The faults of windows that have no chart, of connections that have one; of each the first that it can show."""
     shown = set(map(id, windows))
     connections = {id(window.connection): window.connection for window in windows}.values()
-    found: list[tuple[Connection, Note]] = []
+    found: list[tuple[ChartedConnection, Note]] = []
     for one in connections:
         others = [window for window in one.windows.values() if id(window) not in shown]
         found += [(one, note) for window in others for note in window.faults][:LINES]
@@ -129,7 +129,7 @@ def faults_without_chart(windows: list[Window]) -> list[tuple[Connection, Note]]
 
 
 def json_of(
-    audit: Audit, windows: list[Window], series: list[Series], elsewhere: list[tuple[Connection, Note]]
+    audit: Audit, windows: list[ChartedWindow], series: list[Series], elsewhere: list[tuple[ChartedConnection, Note]]
 ) -> bytes:
     places = {id(one): place for place, one in enumerate(audit.connections)}
     used = sorted({places[id(window.connection)] for window in windows})

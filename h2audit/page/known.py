@@ -2,7 +2,7 @@
 
 from h2audit.page.answer import ended
 from h2audit.page.markup import Content, Markup, row, shortened
-from h2audit.page.model import Connection
+from h2audit.page.model import ChartedConnection
 from h2audit.report import answer_types
 from h2audit.report.answer_types import At, Signal
 from h2audit.report.words import count, time_of
@@ -14,7 +14,7 @@ ENDS = {"FIN": "FIN", "RST": "RST", "capture": "nothing: the capture ends with i
 PLACES = {"client": "at the client", "server": "at the server", "between": "between the peers"}
 
 
-def known_of(one: Connection) -> list[str]:
+def known_of(one: ChartedConnection) -> list[str]:
     """How it was joined, its notes, and facts, in sentences; none of a report."""
     said = one.said
     if not said:
@@ -31,7 +31,7 @@ def known_of(one: Connection) -> list[str]:
     return [ended(text) for text in [*joined, *said["notes"], *facts, *said["limits"]] if text]
 
 
-def settings_table(one: Connection) -> Markup:
+def settings_table(one: ChartedConnection) -> Markup:
     """The initial windows that were announced."""
     found = one.said["settings"] if one.said else []
     rows = [
@@ -48,7 +48,7 @@ def settings_table(one: Connection) -> Markup:
     return shortened(f"Initial windows of connection {one.opening.number}", "settings", rows, len(found))
 
 
-def signal_table(one: Connection) -> Markup:
+def signal_table(one: ChartedConnection) -> Markup:
     """Each GOAWAY, each RST_STREAM with an error, and how the connection ended."""
     if not one.said:
         return Markup("")

@@ -46,10 +46,10 @@ class Others:
 
 
 @dataclass(slots=True)
-class Window:
+class ChartedWindow:
     """One side's window: points of its credit where it is shown, and the notes of its stalls and faults."""
 
-    connection: "Connection"
+    connection: "ChartedConnection"
     side: str
     stream: int
     frames: list[int] = field(default_factory=list)
@@ -78,11 +78,11 @@ class Window:
 
 
 @dataclass(slots=True)
-class Connection:
+class ChartedConnection:
     opening: Opening
     flows: list[Flow] = field(default_factory=list)
     notes: list[Note] = field(default_factory=list)
-    windows: dict[tuple[str, int], Window] = field(default_factory=dict)
+    windows: dict[tuple[str, int], ChartedWindow] = field(default_factory=dict)
     others: Others = field(default_factory=Others)
     # From when to when it lasted: its SYN and its last packet, or by a report its first and its last finding.
     start: int = 0
@@ -129,9 +129,9 @@ class Connection:
         fault = self.fault(note)
         return fault is not None and fault["certainty"] != "certain"
 
-    def window(self, side: str, stream: int) -> Window:
+    def window(self, side: str, stream: int) -> ChartedWindow:
         if (side, stream) not in self.windows:
-            self.windows[side, stream] = Window(self, side, stream)
+            self.windows[side, stream] = ChartedWindow(self, side, stream)
         return self.windows[side, stream]
 
     def since_start(self, finding: Finding) -> int:
@@ -171,13 +171,13 @@ class Audit:
     cut: int | None = None
     unopened: int = 0
     unopened_segments: int = 0
-    connections: list[Connection] = field(default_factory=list)
+    connections: list[ChartedConnection] = field(default_factory=list)
     asked: list[Asked] = field(default_factory=list)
     # What h2audit-why says of a capture.
     answer: WhyDocument | None = None
 
     @cached_property
-    def windows(self) -> list[Window]:
+    def windows(self) -> list[ChartedWindow]:
         """All windows that are told, those with trouble first."""
         windows = [window for one in self.connections for window in one.windows.values()]
         return sorted(windows, key=lambda window: window.trouble)
@@ -232,7 +232,7 @@ def told_of(finding: Finding) -> FaultKey:
     return finding.frame, finding.side, finding.kind, finding.stream, finding.value
 
 
-def answered_connection(one: answer_types.Connection, files: Sequence[str]) -> Connection:
+def answered_connection(one: answer_types.Connection, files: Sequence[str]) -> ChartedConnection:
     found = connection_of(one["number"], one["client"], one["server"], one["charts"], files)
     found.said = one
     for fault in one["faults"]:
@@ -245,15 +245,15 @@ def answered_connection(one: answer_types.Connection, files: Sequence[str]) -> C
     return found
 
 
-def connection_of(number: int, client: str, server: str, charts: Charts, files: Sequence[str]) -> Connection:
+def connection_of(number: int, client: str, server: str, charts: Charts, files: Sequence[str]) -> ChartedConnection:
     opening = Opening(number, client, server, charts["record"], charts["form"], charts["frames"])
-    found = Connection(
+    found = ChartedConnection(
         opening, [Flow(**flow) for flow in charts["flows"]], notes_of(charts, files),
         start=charts["begin"], end=charts["until"], stopped_at=charts["stopped_at"],
         others=Others(**charts["other_windows"]),
     )  # fmt: skip
     for window in charts["windows"]:
-        found.windows[window["side"], window["stream"]] = Window(found, **window)
+        found.windows[window["side"], window["stream"]] = ChartedWindow(found, **window)
     for note in found.notes:
         if note.finding.is_stall_begin:
             found.window(*note.finding.window).stalls.append(note)

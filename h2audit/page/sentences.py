@@ -1,13 +1,13 @@
 """What the page says of one finding: what happened, how long its stall took, who is to blame, and when it was."""
 
 from h2audit.page.answer import ended
-from h2audit.page.model import Connection
+from h2audit.page.model import ChartedConnection
 from h2audit.page.words import clock, waited
 from h2audit.report.charts import Finding, Note
 from h2audit.report.words import OTHER_SIDE, duration
 
 
-def sentence(one: Connection, note: Note) -> str:
+def sentence(one: ChartedConnection, note: Note) -> str:
     said = f"{note.finding.text}{other_end(one, note)} ({note.finding.kind}); {blame(note)}"
     fault = one.fault(note)
     if fault is None:
@@ -24,7 +24,7 @@ def blame(note: Note) -> str:
     return "nobody broke a rule" if finding.is_stall_begin else finding.blame
 
 
-def other_end(one: Connection, note: Note) -> str:
+def other_end(one: ChartedConnection, note: Note) -> str:
     """Where a stall ended or began, and how long it took."""
     finding = note.finding
     if finding.is_stall_begin:
@@ -39,12 +39,12 @@ def other_end(one: Connection, note: Note) -> str:
     return ""
 
 
-def moment(one: Connection, finding: Finding) -> str:
+def moment(one: ChartedConnection, finding: Finding) -> str:
     """Since the connection's SYN, where the capture was given; a report has no time of it, so there it is of day."""
     return duration(one.since_start(finding)) if one.is_captured else clock(finding.time).removesuffix(" UTC")
 
 
-def zero(one: Connection) -> str:
+def zero(one: ChartedConnection) -> str:
     """From when on the times of a connection count."""
     if one.is_captured:
         return f"Times count from the connection's SYN, at {clock(one.start)}."
@@ -52,5 +52,5 @@ def zero(one: Connection) -> str:
     return "Times are in UTC, since a report has no time of the connection's SYN." + charts
 
 
-def has_charts(one: Connection) -> bool:
+def has_charts(one: ChartedConnection) -> bool:
     return any(window.frames for window in one.windows.values())

@@ -3,7 +3,7 @@
 from bisect import bisect_left
 from dataclasses import dataclass
 
-from h2audit.page.model import Window
+from h2audit.page.model import ChartedWindow
 from h2audit.report.charts import Note
 
 # A fault's kind, and whether it can be doubted.
@@ -40,7 +40,7 @@ class Series:
         return sum(number for number in self.stood_for if number > 1)
 
 
-def series_of(window: Window) -> Series:
+def series_of(window: ChartedWindow) -> Series:
     """The points of a window that is shown, among them where its findings stand."""
 
     def place(note: Note) -> int:
@@ -51,7 +51,7 @@ def series_of(window: Window) -> Series:
     return Series(window.frames, window.times, window.credits, stalls, faults, window.changes)
 
 
-def kind_of(window: Window, note: Note) -> Kind:
+def kind_of(window: ChartedWindow, note: Note) -> Kind:
     return note.finding.kind, window.connection.is_doubtful(note)
 
 

@@ -3,7 +3,7 @@
 from h2audit.page.answer import ended
 from h2audit.page.legs import hops_of
 from h2audit.page.markup import Content, Markup, element, items, row, shortened, table
-from h2audit.page.model import Audit, Connection
+from h2audit.page.model import Audit, ChartedConnection
 from h2audit.page.top import AskedPeer, asked, headline, limits
 from h2audit.page.words import Breach, breaches, counts, endpoint, longest_stalls, waited, windows_named
 from h2audit.report.charts import Note
@@ -91,19 +91,19 @@ def stall_table(audit: Audit, notes: set[int]) -> Markup:
     return Markup(table("The longest stalls", "stalls", rows) + element("p", note))
 
 
-def stall_row(one: Connection, stalls: list[Note], notes: set[int]) -> Markup:
+def stall_row(one: ChartedConnection, stalls: list[Note], notes: set[int]) -> Markup:
     first = stalls[0]
     side = first.finding.side
     who = f"{side}, {endpoint(one.opening, side)}"
     return row([waited(one, first), who, windows_named(stalls), place(one, first, notes)])
 
 
-def place(connection: Connection, note: Note, notes: set[int]) -> Content:
+def place(connection: ChartedConnection, note: Note, notes: set[int]) -> Content:
     """Where a finding is, as a link to its row if it has one."""
     name = f"connection {connection.opening.number}, frame {note.finding.frame}, {note.place}"
     return element("a", name, href=f"#{row_id(connection, note)}") if id(note) in notes else name
 
 
-def row_id(connection: Connection, note: Note) -> str:
+def row_id(connection: ChartedConnection, note: Note) -> str:
     finding = note.finding
     return f"c{connection.opening.number}-f{finding.frame}-{finding.side}-{finding.kind}-{finding.stream}"

@@ -5,7 +5,7 @@ from dataclasses import dataclass
 from h2audit.page.chart_data import Packed
 from h2audit.page.known import known_of, settings_table, signal_table
 from h2audit.page.markup import Content, Markup, element, items, markup, row, table
-from h2audit.page.model import Audit, Connection, Others, Window, together
+from h2audit.page.model import Audit, ChartedConnection, ChartedWindow, Others, together
 from h2audit.page.sentences import moment, sentence, zero
 from h2audit.page.summary import row_id
 from h2audit.page.words import breaches, flow_words, longest_stalls, verdict
@@ -23,7 +23,7 @@ class Choice:
     notes: set[int]
     windows: set[int]
     sections: set[int]
-    connections: list[Connection]
+    connections: list[ChartedConnection]
     left_out: list[str]
 
 
@@ -65,15 +65,15 @@ def left_out_words(audit: Audit, sections: int, listed: int, notes: int, windows
     return [f"{shown:,} of {number:,} {rule}" for shown, number, rule in rules if number > shown]
 
 
-def ranked_connections(audit: Audit, first: set[int]) -> list[Connection]:
-    def rank(one: Connection) -> tuple[bool, int, int, int]:
+def ranked_connections(audit: Audit, first: set[int]) -> list[ChartedConnection]:
+    def rank(one: ChartedConnection) -> tuple[bool, int, int, int]:
         return id(one) not in first, -len(one.faults), -len(one.stalls), -len(one.windows)
 
     return sorted(audit.connections, key=rank)
 
 
-def ranked_notes(connections: list[Connection], first: set[int]) -> list[tuple[Connection, Note]]:
-    def rank(pair: tuple[Connection, Note]) -> tuple[bool, bool, int]:
+def ranked_notes(connections: list[ChartedConnection], first: set[int]) -> list[tuple[ChartedConnection, Note]]:
+    def rank(pair: tuple[ChartedConnection, Note]) -> tuple[bool, bool, int]:
         note = pair[1]
         is_fault = note.finding.is_fault
         return id(note) not in first, not is_fault, 0 if is_fault else -abs(pair[0].wait(note))
@@ -81,7 +81,7 @@ def ranked_notes(connections: list[Connection], first: set[int]) -> list[tuple[C
     return sorted([(one, note) for one in connections for note in one.notes], key=rank)
 
 
-def window_id(window: Window) -> str:
+def window_id(window: ChartedWindow) -> str:
     return f"w{window.connection.opening.number}-{window.side}-{window.stream}"
 
 
@@ -112,17 +112,17 @@ def connections(audit: Audit, choice: Choice) -> Markup:
     return element("section", [element("h2", "Connections"), listed_all], id="connections")
 
 
-def trouble_in_all(connections: list[Connection]) -> str:
+def trouble_in_all(connections: list[ChartedConnection]) -> str:
     faults, stalls = sum(len(one.faults) for one in connections), sum(len(one.stalls) for one in connections)
     return f"{count(faults, 'fault')}, {count(stalls, 'stall')} in all"
 
 
-def link_to(one: Connection, choice: Choice) -> Content:
+def link_to(one: ChartedConnection, choice: Choice) -> Content:
     name = f"connection {one.opening.number}"
     return element("a", name, href=f"#c{one.opening.number}") if id(one) in choice.sections else name
 
 
-def section(audit: Audit, one: Connection, choice: Choice) -> Markup:
+def section(audit: Audit, one: ChartedConnection, choice: Choice) -> Markup:
     """One connection: who talked, what came of it, what is known of it, its findings and its windows."""
     opening = one.opening
     number = f"c{opening.number}"
@@ -144,7 +144,7 @@ def section(audit: Audit, one: Connection, choice: Choice) -> Markup:
     return element("section", parts, class_="connection", aria_labelledby=number, **peers)
 
 
-def finding_table(one: Connection, choice: Choice) -> Markup:
+def finding_table(one: ChartedConnection, choice: Choice) -> Markup:
     if not one.notes:
         return Markup("")
     rows = [finding_row(one, note, choice) for note in one.notes if id(note) in choice.notes]
@@ -157,7 +157,7 @@ def packet(note: Note) -> Content:
     return f"{note.packet:,} of {note.file}" if note.file else note.packet
 
 
-def finding_row(one: Connection, note: Note, choice: Choice) -> Markup:
+def finding_row(one: ChartedConnection, note: Note, choice: Choice) -> Markup:
     finding = note.finding
     window = one.windows.get(finding.window)
     place = f"#{window_id(window)}" if window and id(window) in choice.windows else f"#c{one.opening.number}"
@@ -174,7 +174,7 @@ def finding_row(one: Connection, note: Note, choice: Choice) -> Markup:
     )
 
 
-def window_table(one: Connection, choice: Choice) -> Markup:
+def window_table(one: ChartedConnection, choice: Choice) -> Markup:
     """The windows of a connection, and in one row what those have together that are left out."""
     if not one.windows:
         return Markup("")
@@ -187,12 +187,12 @@ def window_table(one: Connection, choice: Choice) -> Markup:
     return table(caption, "windows", rows)
 
 
-def window_row(window: Window) -> Markup:
+def window_row(window: ChartedWindow) -> Markup:
     last = f"{window.last:,}" if window.frames else "not in the report"
     return row([window.name, *sums_of([window]), last], id=window_id(window))
 
 
-def sums_of(windows: list[Window], others: Others | None = None) -> list[Content]:
+def sums_of(windows: list[ChartedWindow], others: Others | None = None) -> list[Content]:
     """What windows have together: faults, stalls, the longest, the time of all, the least and the greatest credit;
     those that are not told with them have no faults or stalls that they do not have too.
     """

@@ -4,7 +4,7 @@ from collections import defaultdict
 from typing import NamedTuple
 
 from h2audit.page.answer import ended, first_of
-from h2audit.page.model import Audit, Connection
+from h2audit.page.model import Audit, ChartedConnection
 from h2audit.page.words import MOST_NAMED, breaches, doubts
 from h2audit.report.answer_types import Asked
 from h2audit.report.words import OTHER_SIDE, count, time_of
@@ -83,7 +83,7 @@ def limits(audit: Audit) -> list[str]:
 
 def not_audited(audit: Audit) -> list[str]:
     """What was not audited, by reason: connections are named, and packets counted."""
-    named: dict[str, list[Connection]] = defaultdict(list)
+    named: dict[str, list[ChartedConnection]] = defaultdict(list)
     for one in audit.connections:
         if one.unaudited:
             named[one.unaudited].append(one)
@@ -94,7 +94,7 @@ def not_audited(audit: Audit) -> list[str]:
     return [ended(text) for text in first_of(said, "reason")]
 
 
-def names(connections: list[Connection]) -> str:
+def names(connections: list[ChartedConnection]) -> str:
     said = [
         f"connection {one.opening.number} ({one.opening.client} to {one.opening.server})"
         for one in connections[:MOST_NAMED]

@@ -5,7 +5,7 @@ from collections import Counter
 from dataclasses import dataclass
 from datetime import datetime, timezone
 
-from h2audit.page.model import Audit, Connection, Opening
+from h2audit.page.model import Audit, ChartedConnection, Opening
 from h2audit.report.charts import Note
 from h2audit.report.words import count, duration, streams_named
 
@@ -73,7 +73,7 @@ class Breach:
     connections: int
     peer: str
     is_doubtful: bool
-    first: tuple[Connection, Note]
+    first: tuple[ChartedConnection, Note]
 
     @property
     def doubt(self) -> str:
@@ -90,7 +90,7 @@ def breaches(audit: Audit) -> list[Breach]:
     """Which peer broke which rule, those that are certain first, and then the most frequent."""
     times: Counter[Rule] = Counter()
     connections: Counter[Rule] = Counter()
-    first: dict[Rule, tuple[Connection, Note]] = {}
+    first: dict[Rule, tuple[ChartedConnection, Note]] = {}
     for one in audit.connections:
         keys = [breach_of(one, note) for note in one.faults]
         times.update(keys)
@@ -101,7 +101,7 @@ def breaches(audit: Audit) -> list[Breach]:
     return sorted(found, key=lambda one: one.is_doubtful)
 
 
-def breach_of(one: Connection, note: Note) -> Rule:
+def breach_of(one: ChartedConnection, note: Note) -> Rule:
     side = note.finding.broke or ""
     return side, note.finding.kind, note.finding.section, peer(one.opening, side), one.is_doubtful(note)
 
@@ -111,7 +111,7 @@ def peer(opening: Opening, side: str) -> str:
     return opening.server if side == "server" else opening.client.rpartition(":")[0]
 
 
-Together = tuple[Connection, list[Note]]
+Together = tuple[ChartedConnection, list[Note]]
 
 
 def longest_stalls(audit: Audit) -> list[Together]:
@@ -126,7 +126,7 @@ def longest_stalls(audit: Audit) -> list[Together]:
     return sorted(found.values(), key=lambda pair: -pair[0].wait(pair[1][0]))[:MOST_STALLS]
 
 
-def waited(connection: Connection, stall: Note) -> str:
+def waited(connection: ChartedConnection, stall: Note) -> str:
     nanos = connection.wait(stall)
     if stall.waited is not None:
         return duration(nanos)
@@ -146,7 +146,7 @@ def endpoint(opening: Opening, side: str) -> str:
     return opening.client if side == "client" else opening.server
 
 
-def verdict(audit: Audit, one: Connection) -> str:
+def verdict(audit: Audit, one: ChartedConnection) -> str:
     """How the audit of a connection ended."""
     if one.unaudited:
         return f"not audited: {one_of(audit.why_not[one.unaudited])}"
@@ -160,7 +160,7 @@ def verdict(audit: Audit, one: Connection) -> str:
     return "; ".join(said)
 
 
-def flow_words(one: Connection) -> list[str]:
+def flow_words(one: ChartedConnection) -> list[str]:
     return [
         f"The {flow.side} sent {count(flow.bytes, 'byte')} that were captured without a hole"
         + (f"; bytes are missing from offset {flow.gap:,} on" if flow.gap is not None else "")

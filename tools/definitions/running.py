@@ -46,7 +46,7 @@ class NotShown(Exception):
     """A relation of the definitions that the witnesses at hand do not bear out."""
 
 
-class Answer(NamedTuple):
+class DefinedAnswer(NamedTuple):
     status: int
     line: bytes  # for standard error
     text: bytes  # the report
@@ -79,7 +79,7 @@ class Reader:
         if shown is not True:
             raise NotShown(", of ".join(self.definitions.failed) or f"{entry}: no equation gives some value")
 
-    def audit(self, capture: bytes, frames_shown: bool) -> Answer:
+    def audit(self, capture: bytes, frames_shown: bool) -> DefinedAnswer:
         """The report that the definitions give for a capture, or their refusal of it."""
         octets, text, verdict = tuple(capture), Hole(0), Hole(0)
         self.definitions.kept.clear()
@@ -90,11 +90,11 @@ class Reader:
         self.show("IsReport", octets, frames_shown, text, verdict)
         return self.answer(Made("Ok", verdict.value), bytes(text.value))
 
-    def answer(self, ended: Value, text: bytes) -> Answer:
+    def answer(self, ended: Value, text: bytes) -> DefinedAnswer:
         """What the program ends with: its status, its line on standard error, and the report."""
         ending = self.ask("ending_of", ended)
         status, line = ending["0"], ending["1"]
-        return Answer(status, bytes((*line, *b"\n")) if line else b"", text)
+        return DefinedAnswer(status, bytes((*line, *b"\n")) if line else b"", text)
 
     def split(self, capture: bytes, count: int) -> list[Part]:
         """The parts that the definitions make of a capture which is not refused."""

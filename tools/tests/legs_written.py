@@ -11,7 +11,7 @@ STATUS_200, MOST = b"\x88", 16_384
 HEADERS, DATA, SETTINGS, WINDOW_UPDATE = 1, 0, 4, 8
 
 
-class Connection:
+class WrittenConnection:
     """A connection of a written capture, with windows that hold all."""
 
     def __init__(self, capture: Timed, client: Endpoint, server: Endpoint) -> None:
@@ -56,8 +56,8 @@ class Connection:
 def at_once(count: int, clients: int = 8, size: int = 100) -> bytes:
     """So many equal requests of some clients, all of which are open at once on both legs."""
     capture = Timed()
-    fronts = [Connection(capture, (CLIENT, 40_000 + number), FRONT) for number in range(clients)]
-    back = Connection(capture, (PROXY, 50_000), BACK)
+    fronts = [WrittenConnection(capture, (CLIENT, 40_000 + number), FRONT) for number in range(clients)]
+    back = WrittenConnection(capture, (PROXY, 50_000), BACK)
     asked = []
     for number in range(count):
         front = fronts[number % clients]
@@ -72,8 +72,8 @@ def mixed(count: int, has_back: bool, each: int = 100, size: int = 2000) -> byte
     """So many requests, one connection's after another's; with both legs of a proxy, or with one server's alone."""
     capture = Timed()
     for number in range(0, count, each):
-        front = Connection(capture, (CLIENT + (number // each << 8), 40_000), FRONT)
-        back = Connection(capture, (PROXY, 10_000 + number // each), BACK) if has_back else None
+        front = WrittenConnection(capture, (CLIENT + (number // each << 8), 40_000), FRONT)
+        back = WrittenConnection(capture, (PROXY, 10_000 + number // each), BACK) if has_back else None
         for at in range(each):
             path = f"/items/{(number + at) % 997}"
             stream = front.ask(path)

@@ -40,7 +40,7 @@ impl Setters {
     }
 }
 
-struct CountedWindow {
+struct ReportedWindow {
     credit: i64,
     setters: Setters,
 }
@@ -48,7 +48,7 @@ struct CountedWindow {
 /// The windows of a connection, as far as its report has gone.
 #[derive(Default)]
 pub struct Windows {
-    windows: HashMap<(Side, u64), CountedWindow>,
+    windows: HashMap<(Side, u64), ReportedWindow>,
     /// The frame at which the connection's window changed last, and whose that was.
     last_of_connection: Option<(u64, Side)>,
 }
@@ -63,7 +63,7 @@ impl Windows {
         }
         let known = self.windows.entry(finding.window());
         let is_new = matches!(known, std::collections::hash_map::Entry::Vacant(_));
-        let window = known.or_insert_with(|| CountedWindow { credit: FIRST_CREDIT, setters: Setters::default() });
+        let window = known.or_insert_with(|| ReportedWindow { credit: FIRST_CREDIT, setters: Setters::default() });
         let is_set = match is_new && !is_connection {
             true => true,
             false => finding.value > window.credit || !is_connection && !has_content,

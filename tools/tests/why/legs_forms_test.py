@@ -11,7 +11,7 @@ import unittest
 
 from tools.tests.legs_written import at_once, mixed
 from tools.tests.why.captures_test import SCHEMA
-from tools.tests.why.legs_judge import Answer
+from tools.tests.why.legs_judge import LegsAnswer
 from tools.tests.why.legs_packets import OnLegs, capture_named, port, ports_of, told
 from tools.tests.why_tools import WHY, has_programs, programs_of, said_of, text
 
@@ -49,7 +49,7 @@ class Forms(OnLegs):
             path = self.whole(capture_named(name))
             found, lines = said_of(path), text("--legs", path)
             jsonschema.Draft202012Validator(SCHEMA).validate(found)
-            requests = Answer(found).requests.values()
+            requests = LegsAnswer(found).requests.values()
             for legs in (asked["legs"] for asked in requests if asked["legs"]):
                 self.assertEqual([line for line in legs["text"] if line not in lines], [])
             lives = {(one["number"], asked["stream"]): (asked["opened"]["time"], asked["nanos"])
@@ -66,7 +66,7 @@ class Forms(OnLegs):
             path = self.chosen(made, lambda _, one: port(server) in ports_of(one))
             found = said_of(path)
             self.assertEqual(found["hops"], [])
-            self.assertEqual({asked["legs"] is None for asked in Answer(found).requests.values()}, {True})
+            self.assertEqual({asked["legs"] is None for asked in LegsAnswer(found).requests.values()}, {True})
 
     def test_no_legs(self) -> None:
         """Without legs the rest of the answer is the same."""
@@ -76,7 +76,7 @@ class Forms(OnLegs):
         self.assertEqual(without["hops"], [])
         for found in (with_legs, without):
             del found["hops"]
-            for asked in Answer(found).requests.values():
+            for asked in LegsAnswer(found).requests.values():
                 asked["legs"] = None
         self.assertEqual(with_legs, without)
 

@@ -49,7 +49,7 @@ def request_of(connection: Json, stream: int) -> Request:
     return Request(connection["client"], connection["server"], stream)
 
 
-class Answer:
+class LegsAnswer:
     """The requests of an answer, by what they are in the truth."""
 
     def __init__(self, found: Json) -> None:
@@ -82,7 +82,7 @@ class Answer:
 def judged(found: Json, front: str, truths: list[Truth], pairs: Pairs) -> Judgement:
     """Judges an answer by what is true of requests to the first proxy, and by all pairs."""
     made = Judgement()
-    answer = Answer(found)
+    answer = LegsAnswer(found)
     judge_pairs(made, answer, pairs)
     for truth in truths:
         judge_truth(made, answer, front, truth)
@@ -90,7 +90,7 @@ def judged(found: Json, front: str, truths: list[Truth], pairs: Pairs) -> Judgem
     return made
 
 
-def judge_pairs(made: Judgement, answer: Answer, pairs: Pairs) -> None:
+def judge_pairs(made: Judgement, answer: LegsAnswer, pairs: Pairs) -> None:
     backs: dict[Request, set[Request]] = {}
     fronts: dict[Request, Request] = {}
     for front, back in pairs:
@@ -122,7 +122,7 @@ def name(one: Request) -> str:
     return f"{one.client} stream {one.stream}"
 
 
-def judge_truth(made: Judgement, answer: Answer, server: str, truth: Truth) -> None:
+def judge_truth(made: Judgement, answer: LegsAnswer, server: str, truth: Truth) -> None:
     front, asked = answer.of_path(server, truth.path)
     legs: Json = asked["legs"] or {}
     said = answer.carried_by(front)
@@ -151,7 +151,7 @@ def is_behind(asked: Json) -> bool:
     return bool(behind["nanos"] >= max(LEAST, asked["nanos"] / 10))
 
 
-def wrong_ask(answer: Answer, server: str, truth: Truth, asked: Json) -> list[str]:
+def wrong_ask(answer: LegsAnswer, server: str, truth: Truth, asked: Json) -> list[str]:
     legs: Json = asked["legs"] or {}
     ask: Json = legs.get("ask") or {}
     wrong = []
@@ -172,7 +172,7 @@ def wrong_ask(answer: Answer, server: str, truth: Truth, asked: Json) -> list[st
     return wrong
 
 
-def judge_sums(made: Judgement, answer: Answer) -> None:
+def judge_sums(made: Judgement, answer: LegsAnswer) -> None:
     """Parts follow each other, and sum to the life to the nanosecond; so do the sums by who and why."""
     for one, asked in answer.requests.items():
         legs = asked["legs"] or {}

@@ -5,7 +5,7 @@ from collections.abc import Callable
 
 from tools.tests.import_tools import Packet, pcap_of, read_pcap
 from tools.tests.why.legs import ROWS
-from tools.tests.why.legs_judge import Answer, Judgement, judged
+from tools.tests.why.legs_judge import Judgement, LegsAnswer, judged
 from tools.tests.why.legs_made import Made, kept
 from tools.tests.why.legs_truth import LINKS, Request, pairs
 from tools.tests.why_tools import Json, OnCaptures, said_of
@@ -37,7 +37,7 @@ def port(server: str) -> int:
 
 def told(found: Json) -> dict[Request, object]:
     """What is said of the legs of each request, by endpoints."""
-    answer = Answer(found)
+    answer = LegsAnswer(found)
     return {one: (answer.carried_by(one), legs_of(asked)) for one, asked in answer.requests.items()}
 
 
