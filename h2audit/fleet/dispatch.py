@@ -241,7 +241,7 @@ class Dispatcher:
     def again(self, capture: Capture, answer: TaskAnswer) -> None:
         """Tries a capture once more.
 
-        Of all tasks of a lost worker one is to blame, so each is tried alone, after all others.
+        One of a lost worker's tasks is to blame, so each is tried alone, after all others.
         """
         self.release(capture)
         capture.waiting, capture.part_tries = set(), {}

@@ -158,7 +158,7 @@ class Watch:
         return self.folder.looks.get(seen.path, (None,))[0] == seen
 
     def look_for_lost(self, ring: Ring) -> None:
-        """What waits and was overwritten, or is gone, is lost. Of what is being read the worker says so."""
+        """What waits and was overwritten, or is gone, is lost. The worker says whether what is being read is."""
         waiting, behind_gap, is_behind_gap = ring.waiting, ring.behind_gap, ring.is_behind_gap
         ring.waiting, ring.behind_gap, ring.is_behind_gap = deque(), set(), False
         for place, seen in enumerate(waiting):

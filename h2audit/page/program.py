@@ -3,9 +3,9 @@
     h2audit-page -k keys.log capture.pcapng -o page.html
     h2audit --frames capture.pcap | h2audit-page - -o page.html
 
-Of captures the page says what h2audit-why says, with the requests over time; of a report what it holds: who broke which
-rule, how long the longest stalls were, and each finding of each connection. With credit lines, as of --frames, it has a
-chart for each window.
+For captures the page says what h2audit-why says, with the requests over time; for a report what it holds: who broke
+which rule, how long the longest stalls were, and each finding of each connection. With credit lines, as of --frames, it
+has a chart for each window.
 
 Exit status: 0 if the page was written, 2 for an invalid command line, 3 if the report or a capture is refused, 4 if
 reading, writing or running a program failed, 5 for want of memory, 7 if a library is not installed. What went wrong is

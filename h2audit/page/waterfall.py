@@ -237,10 +237,7 @@ def waterfall_section(found: Waterfall, times: float, controls: Markup) -> Marku
         controls,
         element("p", BOTH_LEGS, class_="counts") if any(request["legs"] for _, request in found.requests) else "",
         element(
-            "details",
-            [element("summary", "The same as a table"), request_table(found, times)],
-            open=True,
-            id="requests-table",
+            "details", [element("summary", "As a table"), request_table(found, times)], open=True, id="requests-table"
         ),
         element("script", Markup(found.text), type="text/plain", id="request-data"),
     ]
