@@ -9,8 +9,7 @@ use joined::Inferred;
 use crate::answer::Requests;
 use crate::stream::{RequestFields, Stream};
 
-/// Of each connection with gaps, by its number, the streams that are open behind one; and what each asked for, once that
-/// was read.
+/// The streams that are open behind a gap, by the numbers of connections; and what each asked for, once that was read.
 #[derive(Default)]
 pub struct Across {
     streams: HashMap<usize, HashMap<u32, Option<RequestFields>>>,

@@ -135,7 +135,7 @@ pub struct ConnectionSaid {
     pub server: String,
     pub opened: At,
     pub outcome: Outcome,
-    /// Of one that began before the capture.
+    /// How one that began before the capture was joined.
     pub joined: Option<Box<JoinedSaid>>,
     /// Why it was not audited, where that is known more closely.
     pub reason: String,

@@ -156,7 +156,7 @@ impl Held<'_> {
         })
     }
 
-    /// Of a window that is too small for a round trip the one that would do.
+    /// The window that would do, where one is too small for a round trip.
     fn needed(&self, cause: &Cause) -> Option<i64> {
         let is_small = cause.why == CauseWhy::Stalls(StallWhy::RoundTrip) && self.seen.about.is_far();
         let round_trip = self.seen.about.round_trip.nanos().filter(|_| is_small)?;

@@ -4,7 +4,7 @@ use crate::answer::{Cause, CauseKind, CauseWhy, How, Nanos, StallWhy};
 use crate::causes::Held;
 
 impl Held<'_> {
-    /// Of a request that hung what held it back last, and for how long from the begin of that stall on.
+    /// What held back a request that hung last, and for how long from the begin of that stall on.
     pub fn hung(&self, cause: &Cause) -> Option<(Cause, Nanos)> {
         let stream = match cause.kind {
             CauseKind::StreamWindow => self.request.stream,

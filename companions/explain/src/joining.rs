@@ -71,7 +71,7 @@ pub fn is_told(pair: &Unopened, courses: &Courses) -> bool {
     !pair.is_one_way && is_joined_and_told(pair.fate, courses)
 }
 
-/// The same of what follows a gap.
+/// Whether what follows a gap is joined, and told.
 pub fn is_joined_and_told(fate: Fate, courses: &Courses) -> bool {
     let course = match fate {
         Fate::Joined(connection) => courses.connections.get(connection).and_then(Option::as_deref),

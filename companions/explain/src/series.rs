@@ -8,7 +8,7 @@ use crate::answer::Nanos;
 const FEWEST: usize = 16;
 /// A window has so many points at most, where there is room: more than a screen shows.
 const MOST: usize = 4096;
-/// Of so many points four are kept, where a window's are halved.
+/// Four of so many points are kept, where a window's are halved.
 const HALVED: usize = 8;
 
 /// The credit after a frame.
@@ -107,7 +107,7 @@ impl Stretch {
 }
 
 impl Series {
-    /// Of a window that begins with a credit that no frame tells.
+    /// The series of a window that begins with a credit that no frame tells.
     pub fn from(before: i64) -> Series {
         Series { before: Some(before), ..Series::default() }
     }

@@ -11,7 +11,7 @@ pub const ENABLE_PUSH: usize = 0;
 pub const INITIAL_WINDOW: usize = 1;
 pub const MAX_FRAME_SIZE: usize = 2;
 const HEADER_TABLE_SIZE: u16 = 1;
-/// Of a connection with more SETTINGS, those of the first ones are told.
+/// If a connection has more SETTINGS, the first ones are told.
 const MOST_TOLD: u32 = 1000;
 
 /// What the SETTINGS of a connection said so far. Nothing is kept of SETTINGS that no longer wait, but what is told.

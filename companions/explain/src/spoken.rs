@@ -34,7 +34,7 @@ const OTHERS: [(&str, &[u8]); 10] = [
     ("pop3", b"+OK"),
     ("http/0.9", b"<!DOCTYPE "),
 ];
-/// Of the length of its start, what follows is fixed.
+/// How long the length at its start is, and what follows.
 const STARTUP: (&str, usize, &[u8]) = ("postgresql", 4, b"\0\x03\0\0");
 const GREETING: (&str, usize, &[u8]) = ("mysql", 3, b"\0\n");
 const MQTT: (&str, [&[u8]; 2]) = ("mqtt", [b"\0\x04MQTT", b"\0\x06MQIsdp"]);

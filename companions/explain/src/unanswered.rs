@@ -12,7 +12,7 @@ use crate::windows::{Initial, FIRST_CREDIT, MOST_CREDIT};
 use crate::words::code_name;
 
 const FLOW_CONTROL_ERROR: u32 = 3;
-/// Of so many SETTINGS of a connection that raise the initial window and are acknowledged it is looked what they would do.
+/// So many SETTINGS of a connection that raise the initial window and are acknowledged are tried for their effect.
 const MOST_LOOKS: u32 = 64;
 
 #[derive(Debug)]
@@ -138,8 +138,7 @@ impl Unanswered {
         }
     }
 
-    /// Of those that were acknowledged these that were answered by FLOW_CONTROL_ERROR, unless the report has a finding of
-    /// them.
+    /// Among those that were acknowledged, these that FLOW_CONTROL_ERROR answered, unless the report has a finding.
     pub fn said(&self, has_finding: bool) -> Vec<String> {
         let is_told = |note: &&Note| note.index >= self.acknowledged[note.side] || note.is_answered() && !has_finding;
         self.notes.iter().filter(is_told).map(Note::text).collect()

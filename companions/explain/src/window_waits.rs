@@ -7,7 +7,7 @@ use reports::Side;
 
 use crate::answer::{Cause, CauseKind, CauseWhy, ConnectionSaid, Holder, Leak, Nanos, Request, StallSaid, StallWhy};
 
-/// Of a connection's windows, whose requests each come by [`WindowWaits::meet`].
+/// The waits for a connection's windows; each request comes by [`WindowWaits::meet`].
 pub struct WindowWaits<'a> {
     said: &'a ConnectionSaid,
     /// Nothing where no window was used up.
@@ -19,7 +19,7 @@ struct Waits {
     stalls: HashMap<(Side, u32), StallSums>,
     /// The streams that waited for the connection's window, by the side that sends.
     waited: [Vec<u32>; 2],
-    /// Of these, those without content, and up to when they lasted.
+    /// Those among them without content, and up to when they lasted.
     silent: [Vec<(u32, Nanos)>; 2],
 }
 
@@ -29,7 +29,7 @@ pub struct StallSums {
     pub count: u64,
     /// How late the latest grant was, or how long the longest stall where none came late.
     pub longest: Nanos,
-    /// Of all of them.
+    /// The sum of all.
     pub nanos: Nanos,
 }
 

@@ -76,7 +76,7 @@ pub fn time_of(nanos: Nanos) -> String {
     text
 }
 
-/// The same, behind a text.
+/// Puts a duration behind a text.
 pub fn put_time(text: &mut String, nanos: Nanos) {
     let (unit, size) = match UNITS.iter().find(|unit| nanos >= unit.1) {
         Some((unit, size)) => (*unit, size.unsigned_abs()),

@@ -41,7 +41,7 @@ pub trait Listener {
 pub struct Record<'a> {
     /// As h2audit counts, from 1 on.
     pub number: u64,
-    /// Of the packet that completed it.
+    /// The arrival of the packet that completed it.
     pub arrival: Arrival,
     /// Whose it is by h2audit's rules: the last opening of its pair among the records up to it.
     pub sender: Option<Sender>,
@@ -84,7 +84,7 @@ impl<'a> Written<'a> {
         Written { parts: segment.datagram(), original, is_whole: true, ..Written::like(segment, segment.end) }
     }
 
-    /// The same, of one that was found before.
+    /// A packet that was found before, as it is written.
     #[inline]
     pub(crate) fn standing(found: &InIpv4<'a>) -> Written<'a> {
         let InIpv4 { datagram, original, sequence, flags, start, end, .. } = *found;

@@ -12,7 +12,7 @@ use crate::listener::{Files, Listener, Record};
 use crate::others::Kind;
 use crate::outcomes::{Became, Fate, Outcome, Read, Reordered, SideRead, Summary};
 
-/// Of a map without and with connections that are joined.
+/// The first line of a map without, and with, connections that are joined.
 const FIRST_LINES: [&str; 2] = ["h2audit-map 1", "h2audit-map 2"];
 
 /// The lines of a map, written as they become known; without a file they go nowhere.

@@ -117,7 +117,7 @@ impl Became {
 pub struct Outcome {
     /// The packet of its opening, numbered through all files.
     pub opening: u64,
-    /// Of what its client sends.
+    /// The ends of what its client sends.
     pub ends: Ends,
     pub became: Became,
     /// What stood before its bytes, and was left out.

@@ -68,7 +68,7 @@ pub struct Sink<'a> {
     writer: pcap::Writer<&'a mut dyn Target>,
     pub listener: &'a mut dyn Listener,
     count: u64,
-    /// Of which connections an opening is written.
+    /// Which connections have an opening that is written.
     opened: Vec<bool>,
     problem: Option<Problem>,
     /// Whether what is written now is made up.

@@ -26,7 +26,7 @@ pub enum Sure {
     Certain,
     Strong,
     Likely,
-    /// Of this window or another one.
+    /// This window or another one was used up.
     Either,
 }
 

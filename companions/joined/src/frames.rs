@@ -2,7 +2,7 @@
 
 use cutter::{flag, kind, PREFACE};
 
-/// Of SETTINGS (RFC 9113, 6.5.2).
+/// Identifiers of SETTINGS (RFC 9113, 6.5.2).
 pub const HEADER_TABLE_SIZE: u16 = 1;
 pub const INITIAL_WINDOW: u16 = 4;
 pub const MAX_FRAME_SIZE: u16 = 5;
@@ -15,7 +15,7 @@ const ENTRY: u32 = 33;
 /// What both sides of a connection send, in turn.
 #[derive(Default)]
 pub struct Script {
-    /// Of each step, the side and its bytes.
+    /// The side of each step, and its bytes.
     pub steps: Vec<(usize, Vec<u8>)>,
     /// How many frames each side sends, and how many bytes.
     pub frames: [u32; 2],

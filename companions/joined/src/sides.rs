@@ -139,7 +139,7 @@ impl Sides {
     }
 }
 
-/// Of the first flow's sender and receiver; none where both are alike.
+/// The client, by the ports of the first flow's sender and receiver; none where both are alike.
 fn client_by_ports(ports: [u16; 2]) -> Option<usize> {
     match ports.map(|port| port >= 1 << 15) {
         [true, false] => Some(0),

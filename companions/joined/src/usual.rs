@@ -30,7 +30,7 @@ pub fn is_window(number: i64) -> bool {
     number >= 1023 && number & (number + 1) == 0
 }
 
-/// Of a time; no time is shorter than one nanosecond.
+/// The logarithm of a time; no time is shorter than one nanosecond.
 #[inline]
 fn log2_of(time: Nanos) -> usize {
     63 & !(time.max(1) as u64).leading_zeros() as usize

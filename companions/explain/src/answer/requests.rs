@@ -70,7 +70,7 @@ pub struct Direction {
     pub first: Option<At>,
     pub end: Option<At>,
     pub stalls: u32,
-    /// Of what it waited, how long that was since the other side's last frame, without TCP and a way there and back.
+    /// How much of what it waited was since the other side's last frame, without TCP and a way there and back.
     pub waited: Nanos,
 }
 
@@ -145,7 +145,7 @@ pub struct Cause {
     pub sure: Option<Sure>,
     /// Whether the side sent nothing at all on the connection, where it sent nothing on the stream.
     pub is_silent: bool,
-    /// Of a path: what the side sent on the connection meanwhile, and how many streams shared it.
+    /// With a path: what the side sent on the connection meanwhile, and how many streams shared it.
     pub content: u64,
     pub streams: u32,
 }
@@ -156,7 +156,7 @@ impl Cause {
         a_second(self.window.into(), round_trip.nanos().unwrap_or(0))
     }
 
-    /// Of a path: bytes a second that the side sent on the connection meanwhile.
+    /// With a path: bytes a second that the side sent on the connection meanwhile.
     pub fn path_rate(&self) -> i128 {
         a_second(self.content.into(), self.nanos)
     }
@@ -219,7 +219,7 @@ impl Request {
         self.sides.iter().map(Direction::stalled).sum()
     }
 
-    /// Of one that hung: for how long a window had held it back before.
+    /// For how long a window had held back one that hung, before it hung.
     pub fn stalled_before(&self) -> Option<Nanos> {
         self.is_hung.then(|| self.cause.nanos - self.hung_nanos)
     }

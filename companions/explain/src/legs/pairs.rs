@@ -8,7 +8,7 @@ use crate::legs::candidates::{Candidates, Claim};
 use crate::legs::facts::Facts;
 use crate::legs::said::{Likeness, PairGrade};
 
-/// Of a front request that none is known to have answered.
+/// Stands at a front request that none is known to have answered.
 const FREE: usize = usize::MAX;
 /// A proxy keeps turns if so many pairs of a front connection do.
 const LEAST_TURNS: usize = 3;

@@ -19,7 +19,7 @@ pub struct Print {
     pub first: Nanos,
 }
 
-/// The same as frames come.
+/// A print that is made as frames come.
 pub struct Printing {
     hasher: NumberHasher,
     count: u32,

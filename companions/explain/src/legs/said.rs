@@ -57,7 +57,7 @@ pub enum Whose {
     Unseen,
 }
 
-/// The same without why.
+/// Whose an instant is, without why.
 #[derive(Clone, Copy, Debug, PartialEq, Eq, Hash, PartialOrd, Ord)]
 pub enum Who {
     Client,
@@ -205,7 +205,7 @@ impl Brake {
 /// What is said of a request of a hop.
 #[derive(Clone, Debug, Default)]
 pub struct RequestLegs {
-    /// Of a front request the hop that time is told of: that of what answered it, or its listener's first.
+    /// The hop that a front request's time is told of: that of what answered it, or its listener's first.
     pub hop: Option<usize>,
     /// The front request that it carries.
     pub carries: Option<Leg>,
@@ -295,7 +295,7 @@ pub struct Legs {
 }
 
 impl Legs {
-    /// Of requests at some places nothing is said yet. They count in this order.
+    /// Nothing is said yet of requests at some places, which count in this order.
     pub fn at(places: impl ExactSizeIterator<Item = Place>) -> Legs {
         let mut legs = Legs::default();
         legs.all.resize_with(places.len(), RequestLegs::default);

@@ -24,7 +24,7 @@ const MOST_PARTS: usize = 512;
 pub struct Telling<'a> {
     pub answer: &'a Answer,
     pub facts: &'a Facts,
-    /// Of each request those of both directions.
+    /// The courses of each request, in both directions.
     pub courses: &'a [[ByteCourse; 2]],
     pub hops: &'a [Hop],
     pub pairs: &'a Pairs,
