@@ -5,7 +5,7 @@ use std::fs::File;
 use std::io;
 use std::path::Path;
 
-use import::{Bounds, Courses, Fate, MadeCapture, Sink, Summary, Unopened};
+use import::{Bounds, Courses, Fate, MadeCapture, Sink, Summary, Target, Unopened};
 use joined::How;
 use originals::{Keeping, Original};
 use programs::{program_named, temporary_failure, Failure, Progress};
@@ -50,9 +50,8 @@ pub struct ExplainOptions<'a> {
     pub has_legs: bool,
 }
 
-/// What was made, and what is known of it.
+/// What is known of what was made.
 pub struct Made {
-    pub capture: MadeCapture,
     pub log: FrameLog,
     pub summary: Summary,
     pub courses: Courses,
@@ -71,7 +70,7 @@ pub struct Made {
 /// Imports the files, audits what is made, and says what it means.
 pub fn answer_of(asked: &ExplainOptions<'_>) -> Result<Answer, Failure> {
     match asked.report {
-        Some(report) => answer_by(asked, make(asked, false, false)?.0, read_report(report)?),
+        Some(report) => answer_by(asked, make(asked, false, &mut io::sink())?.0, read_report(report)?),
         None => {
             let (made, _, audits) = made_and_audited(asked, false, None)?;
             answer_by(asked, made, audits)
@@ -83,7 +82,7 @@ pub fn answer_of(asked: &ExplainOptions<'_>) -> Result<Answer, Failure> {
 pub fn answer_with_report(asked: &ExplainOptions<'_>, to: ReportTo<'_>) -> Result<(Answer, Reported), Failure> {
     let (made, keeping, audits, report) = match asked.report {
         Some(path) => {
-            let (made, keeping) = make(asked, true, false)?;
+            let (made, keeping) = make(asked, true, &mut io::sink())?;
             let report = File::open(path).map_err(|error| Failure::of_file(path, &error))?;
             (made, keeping, read_report(path)?, report)
         }
@@ -94,7 +93,6 @@ pub fn answer_with_report(asked: &ExplainOptions<'_>, to: ReportTo<'_>) -> Resul
         }
     };
     let mut original = keeping.unwrap_or_default().original;
-    original.is_audited = made.capture.is_original();
     note_joined(&mut original, &made);
     let answer = answer_by(asked, made, audits)?;
     let reported = of_original(report, &mut original, &answer, to)?;
@@ -136,14 +134,17 @@ fn made_and_audited(
     keeps: bool,
     mut copy: Option<&mut File>,
 ) -> Result<MadeAndAudited, Failure> {
-    let (mut made, mut keeping) = make(asked, keeps, true)?;
+    let mut capture = MadeCapture::new(asked.files, !asked.is_reordered)?;
+    let (mut made, mut keeping) = make(asked, keeps, &mut capture)?;
     let program = program_named(asked.h2audit.clone())?;
-    let mut audits = audit(asked, &program, &mut made, copy.as_deref_mut());
-    if made.capture.has_changed() {
-        (made, keeping) = make(asked, keeps, false)?;
-        audits = audit(asked, &program, &mut made, copy);
+    let mut audits = audit(asked, &program, &mut capture, copy.as_deref_mut());
+    if capture.has_changed() {
+        capture = MadeCapture::new(asked.files, false)?;
+        (made, keeping) = make(asked, keeps, &mut capture)?;
+        audits = audit(asked, &program, &mut capture, copy);
     }
     let audits = audits?;
+    keeping.iter_mut().for_each(|keeping| keeping.original.is_audited = capture.is_original());
     if audits.len() != made.order.len() {
         return Err(broken("it has other connections"));
     }
@@ -153,11 +154,11 @@ fn made_and_audited(
 fn audit(
     asked: &ExplainOptions<'_>,
     program: &OsStr,
-    made: &mut Made,
+    capture: &mut MadeCapture,
     copy: Option<&mut File>,
 ) -> Result<Audits, Failure> {
     let _auditing = Progress::begin(asked.program, "auditing", None);
-    audited(program, asked.options, &mut made.capture, copy)
+    audited(program, asked.options, capture, copy)
 }
 
 fn answer_by(asked: &ExplainOptions<'_>, mut made: Made, audits: Audits) -> Result<Answer, Failure> {
@@ -183,12 +184,12 @@ fn answer_by(asked: &ExplainOptions<'_>, mut made: Made, audits: Audits) -> Resu
     Ok(answer)
 }
 
-/// Imports; and keeps what a report of the original needs, where that is wanted. The original may stand for what is made.
-fn make(asked: &ExplainOptions<'_>, keeps: bool, may_stand: bool) -> Result<(Made, Option<Keeping>), Failure> {
-    let mut capture = MadeCapture::new(asked.files, may_stand && !asked.is_reordered)?;
+/// Imports; and keeps what a report of the original needs, where that is wanted. What is made goes to where it is audited,
+/// if it is.
+fn make(asked: &ExplainOptions<'_>, keeps: bool, target: &mut dyn Target) -> Result<(Made, Option<Keeping>), Failure> {
     let mut listening = Listening { learning: Learning::new()?, keeping: keeps.then(Keeping::default) };
     let mut courses = Courses::default();
-    let mut sink = Sink::new(&mut capture, &mut listening)?;
+    let mut sink = Sink::new(target, &mut listening)?;
     let ExplainOptions { program, files, key_logs, is_reordered, is_joined, .. } = *asked;
     let bounds = Bounds::default();
     let import = import::ImportOptions { program, files, key_logs, is_reordered, is_joined, bounds, can_repeat: true };
@@ -208,7 +209,7 @@ fn make(asked: &ExplainOptions<'_>, keeps: bool, may_stand: bool) -> Result<(Mad
     place_early(&mut connections, &mut log).map_err(|error| temporary_failure(&error))?;
     let known = connections.into_iter().map(|one| one.map(|one| Box::new(one.known()))).collect();
     let places = Vec::new();
-    Ok((Made { capture, log, summary, courses, known, order, files, cuts, addresses, places }, listening.keeping))
+    Ok((Made { log, summary, courses, known, order, files, cuts, addresses, places }, listening.keeping))
 }
 
 /// Goes on with connections whose server sent bytes before its initial sequence number was known.

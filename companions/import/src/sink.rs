@@ -47,6 +47,17 @@ impl Target for Output {
     }
 }
 
+/// What is made goes nowhere, where nobody reads it.
+impl Target for io::Sink {
+    fn begin_anew(&mut self) -> io::Result<()> {
+        Ok(())
+    }
+
+    fn failure(&self, error: &io::Error) -> Failure {
+        temporary_failure(error)
+    }
+}
+
 impl Target for PrivateFile {
     fn begin_anew(&mut self) -> io::Result<()> {
         PrivateFile::begin_anew(self)
