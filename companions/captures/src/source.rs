@@ -132,8 +132,10 @@ impl Source {
             self.end -= self.start;
             self.start = 0;
         }
-        if self.window.len() - self.end < CHUNK / 4 {
-            self.window.resize(CHUNK.max(self.window.len() * 2), 0);
+        if self.window.is_empty() {
+            self.window = vec![0; CHUNK]; // of the system's zeros, which take no memory until they are used
+        } else if self.window.len() - self.end < CHUNK / 4 {
+            self.window.resize(self.window.len() * 2, 0);
         }
         let got = self.unpacked.read(&mut self.window[self.end..], &mut self.is_cut)?;
         self.end += got;

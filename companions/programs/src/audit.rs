@@ -11,8 +11,8 @@ use crate::running::{beside_or_in_path, Running};
 
 pub const H2AUDIT: &str = "h2audit";
 const VARIABLE: &str = "H2AUDIT";
-/// So many bytes of a report are read at a time.
-const BUFFER: usize = 1 << 18;
+/// So many bytes of a report are read at a time: a pipe holds no more.
+const BUFFER: usize = 1 << 16;
 
 /// h2audit as the command line or the environment names it, else the one beside this program, else the path's.
 pub fn program_named(named: Option<OsString>) -> Result<OsString, Failure> {
