@@ -1,6 +1,7 @@
 //! Writes JSON on one line of ASCII, into a buffer that goes to its output as it fills.
 
 use std::io::{self, Write};
+use std::ops::Range;
 
 /// A buffer of so many bytes goes to its output, which need not copy so many into its own buffer.
 const FULL: usize = 1 << 17;
@@ -9,15 +10,25 @@ const SHORT: usize = 32;
 /// So many bytes of a text are looked at side by side.
 const STRIDE: usize = 32;
 
+/// So many values are kept that may come again.
+const MOST_KEPT: usize = 4;
+
 /// JSON that is being written. Behind each value stands a comma, until what it is in ends.
 pub struct Json<'a> {
     buffer: Vec<u8>,
     to: &'a mut dyn Write,
+    /// The last values that may come again, by what tells them from others, and where they stand in the buffer without
+    /// their commas; and which of them goes next.
+    kept: [Option<(Key, Range<usize>)>; MOST_KEPT],
+    oldest: usize,
 }
+
+/// What tells a value that may come again from others.
+pub type Key = [u64; 4];
 
 impl<'a> Json<'a> {
     pub fn new(to: &'a mut dyn Write) -> Json<'a> {
-        Json { buffer: Vec::with_capacity(FULL + FULL / 2), to }
+        Json { buffer: Vec::with_capacity(FULL + FULL / 2), to, kept: Default::default(), oldest: 0 }
     }
 
     /// Gives on what was written, where that is much.
@@ -35,6 +46,7 @@ impl<'a> Json<'a> {
         self.takes_comma();
         self.to.write_all(&self.buffer)?;
         self.buffer.clear();
+        self.kept = Default::default();
         Ok(())
     }
 
@@ -43,6 +55,22 @@ impl<'a> Json<'a> {
         let has_comma = self.buffer.last() == Some(&b',');
         self.buffer.truncate(self.buffer.len() - usize::from(has_comma));
         has_comma
+    }
+
+    /// Writes a value that often is that of one just before, which then is copied.
+    pub fn often(&mut self, key: Key, write: impl FnOnce(&mut Json<'a>)) {
+        match self.kept.iter().flatten().find(|one| one.0 == key) {
+            Some((_, place)) => {
+                self.buffer.extend_from_within(place.clone());
+                self.buffer.push(b',');
+            }
+            None => {
+                let begin = self.buffer.len();
+                write(self);
+                self.kept[self.oldest] = Some((key, begin..self.buffer.len() - 1));
+                self.oldest = (self.oldest + 1) % MOST_KEPT;
+            }
+        }
     }
 
     /// A line ends, and another document begins.
@@ -218,6 +246,28 @@ mod tests {
         json.finish()?;
         let wanted = format!("[{}10]\n[-9223372036854775808,-9,9,10]", "10,".repeat(FULL - 1));
         assert_eq!(String::from_utf8_lossy(&written), wanted);
+        Ok(())
+    }
+
+    #[test]
+    fn what_comes_again_is_copied() -> std::io::Result<()> {
+        let (mut written, mut wanted) = (Vec::new(), Vec::new());
+        let mut json = Json::new(&mut written);
+        for round in 0..3 {
+            for number in [1, 1, 2, 1, 3, 4, 5, 1, 5] {
+                json.object(|json| {
+                    json.often([number, 0, 0, 0], |json| json.list([number], |json, one| json.number(one)))
+                });
+                wanted.extend_from_slice(format!("{{[{number}]}},").as_bytes());
+            }
+            if round == 1 {
+                json.finish()?;
+                wanted.pop();
+            }
+        }
+        json.finish()?;
+        wanted.pop();
+        assert_eq!(String::from_utf8_lossy(&written), String::from_utf8_lossy(&wanted));
         Ok(())
     }
 

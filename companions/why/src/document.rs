@@ -109,11 +109,13 @@ pub fn summary(json: &mut Json<'_>, answer: &Answer, one: &Summary) {
 pub fn place(json: &mut Json<'_>, at: Option<At>, files: &Files) {
     json.some(at, |json, at| {
         let (file, packet) = files.place(at.packet);
-        json.object(|json| {
-            json.name("packet").number(packet);
-            json.name("file").number(file);
-            json.name("time").number(at.time);
-            json.name("frame").some_number(Some(at.frame).filter(|frame| *frame > 0));
+        json.often([packet, file as u64, at.time as u64, at.frame.into()], |json| {
+            json.object(|json| {
+                json.name("packet").number(packet);
+                json.name("file").number(file);
+                json.name("time").number(at.time);
+                json.name("frame").some_number(Some(at.frame).filter(|frame| *frame > 0));
+            });
         });
     });
 }
