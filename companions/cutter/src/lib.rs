@@ -87,7 +87,8 @@ pub struct Cut<'a> {
     pub payload: &'a [u8],
     /// When its packets came, the first and the last one too.
     pub times: &'a [Nanos],
-    /// How many bytes of it had come by each of these times, its header among them.
+    /// How many bytes of it had come by each of these times, its header among them; nothing where all came at one time, or
+    /// that number.
     pub arrived: &'a [u32],
 }
 

@@ -238,7 +238,7 @@ impl FrameReader {
     }
 
     /// Sees to it that the window holds so much of what comes next.
-    #[inline]
+    #[inline(always)] // it mostly does
     fn fill(&mut self, size: usize) -> io::Result<()> {
         match self.filled - self.place >= size {
             true => Ok(()),
@@ -246,12 +246,16 @@ impl FrameReader {
         }
     }
 
+    #[inline(never)]
     fn read_on(&mut self, size: usize) -> io::Result<()> {
         self.window.copy_within(self.place..self.filled, 0);
         let begin = self.filled - self.place;
         self.place = 0;
         let room = size.max(BUFFER);
-        self.window.resize(room, 0);
+        match self.window.is_empty() {
+            true => self.window = vec![0; room], // of the system's zeros, which take no memory until they are used
+            false => self.window.resize(room, 0),
+        }
         self.window.shrink_to(room);
         let more = (self.size - self.read).min((room - begin) as u64) as usize;
         self.file.read_exact_at(&mut self.window[begin..begin + more], self.read)?;
@@ -333,15 +337,13 @@ fn entry_of<'a>(front: Front, behind: &'a [u8], place: &mut Place, (first, arriv
 impl Frames<'_> {
     /// Gives each of them.
     pub fn each<E>(&self, mut give: impl FnMut(&Cut<'_>) -> Result<(), E>) -> Result<(), E> {
-        let last = self.first.len().saturating_sub(1);
-        let (mut times, mut several, mut rest) = (self.first, self.arrived, self.octets);
+        let others = &self.first[self.first.len().saturating_sub(1)..];
+        let (mut times, mut arrived, mut rest) = (self.first, self.arrived, self.octets);
         while let Some(header) = rest.get(..HEADER).and_then(|front| <&[u8; HEADER]>::try_from(front).ok()) {
             let head = Head::of(header);
             let end = (HEADER + wants(&head).min(head.length as usize)).min(rest.len());
-            let whole = [HEADER as u32 + head.length];
-            let arrived = if several.is_empty() { &whole } else { several };
             give(&Cut { head, payload: &rest[HEADER..end], times, arrived })?;
-            (times, several, rest) = (&self.first[last..], &[], &rest[end..]);
+            (times, arrived, rest) = (others, &[], &rest[end..]);
         }
         Ok(())
     }

@@ -132,7 +132,8 @@ impl Collecting {
 fn came_of<'a>(cut: &'a Cut<'_>, (begin, end): (u64, u64)) -> impl Iterator<Item = (Nanos, u64)> + 'a {
     let front = HEADER as u64 + begin;
     let came = move |bytes: &u32| u64::from(*bytes).saturating_sub(front).min(end - begin);
-    cut.times.iter().copied().zip(cut.arrived.iter().map(came))
+    let whole = cut.arrived.is_empty().then_some(end - begin);
+    cut.times.iter().copied().zip(whole.into_iter().chain(cut.arrived.iter().map(came)))
 }
 
 #[cfg(test)]
@@ -156,5 +157,7 @@ mod tests {
         assert_eq!(body, (1, 91));
         let came: Vec<_> = came_of(&cut, body).collect();
         assert_eq!(came, [(1, 0), (2, 0), (3, 50), (4, 90)], "neither the header nor padding counts");
+        let whole = Cut { times: &[1], arrived: &[], ..cut };
+        assert_eq!(came_of(&whole, body).collect::<Vec<_>>(), [(1, 90)]);
     }
 }
