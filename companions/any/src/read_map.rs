@@ -3,7 +3,7 @@
 use std::io::{BufRead, BufReader};
 use std::path::Path;
 
-use originals::{Became, Joined, Original, OriginalConnection, Other, SideRead};
+use originals::{Became, Joined, Original, OriginalConnection, Other, SideRead, Unopened};
 use programs::{printable, Failure, Input};
 use reports::maps::{MapError, MapLine, MapReader};
 use reports::Capture;
@@ -124,6 +124,10 @@ impl Reading {
                 self.original.capture = Capture::of(text)?;
                 self.has_counts = true;
             }
+            "unopened" => {
+                let (first, second) = (words.get(1)?.to_string(), words.get(2)?.to_string());
+                self.original.add_unopened((first, second), Unopened { segments: number(8)?, fate: None });
+            }
             "connection" => self.begin(&words)?,
             "flow" | "fragments" | "last" => self.connection.as_mut()?.take(&words)?,
             _ if import::is_of_joined(text) => self.connection.as_mut()?.joined.push(text.to_string()),
@@ -180,15 +184,16 @@ mod tests {
 
     const INTERESTING: [&[u8]; 8] =
         [b"\n", b" ", b"18446744073709551615", b"connection ", b"frame ", b"\xff", b"refused", b"flow client "];
-    const MAP: &[u8] = b"h2audit-map 1\nfile 1 a.pcap\naddress 240.0.0.1 2001:db8::1\nrecord 1 file 1 packet 1\n\
+    const MAP: &[u8] = b"h2audit-map 2\nfile 1 a.pcap\naddress 240.0.0.1 2001:db8::1\nrecord 1 file 1 packet 1\n\
         record 2 file 1 packet 4\nrecord 3 file 1 packet 9\npassed file 1 packet 3 fragment\n\
         capture records 9 segments 8 snapped 0 not-ipv4 0 fragments 1 not-tcp 0 refused 0\n\
+        unopened [2001:db8::1]:9 10.0.0.2:2 file 1 packet 2 segments 4\njoined-as 2\n\
         connection client [2001:db8::1]:1 server 10.0.0.2:2 file 1 packet 1 tls 1.3 SUITE alpn h2 records 7\n\
         flow client bytes 9 gap none tail 5 end cut\nflow server bytes 7 gap 7 tail 0 end no-key\nfragments 1\n\
         last file 1 packet 9 time 20\n\
         connection client 10.0.0.1:1 server 10.0.0.2:2 file 1 packet 4 refused no-key\n";
     const REPORT: &[u8] = b"capture records 3 segments 3 snapped 0 not-ipv4 0 fragments 0 not-tcp 0 refused 0\n\
-        unopened 240.0.0.1:9 10.0.0.2:2 segments 4\n\
+        unopened 240.0.0.1:9 10.0.0.2:2 segments 1\n\
         connection 1 client 240.0.0.1:1 server 10.0.0.2:2 record 1 http2 frames 2\n\
         flow client bytes 9 gap none tail 1\nflow server bytes 7 gap 7 tail 0\n\
         frame 1 record 3 time 5 client stream-overrun stream 1 value -5\n\

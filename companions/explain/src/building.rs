@@ -109,9 +109,9 @@ fn note_joined(original: &mut Original, made: &Made) {
         let outcome = made.summary.outcomes.get(one.connection);
         outcome.into_iter().for_each(|outcome| original.add_joined(outcome.opening, joined.clone()));
     }
-    for pair in &made.summary.unopened {
-        let fates = fate_of(pair, &made.courses).into_iter();
-        fates.for_each(|fate| original.add_fate(made.addresses.endpoints(&pair.ends), fate));
+    for pair in made.summary.unopened.iter().filter(|pair| pair.fate != Fate::NotAsked) {
+        let known = originals::Unopened { segments: pair.segments, fate: fate_of(pair, &made.courses) };
+        original.add_unopened(made.addresses.endpoints(&pair.ends), known);
     }
 }
 

@@ -166,6 +166,11 @@ impl<'a> Sink<'a> {
         }
     }
 
+    /// Leaves out a segment, whose time must be one that can be written all the same.
+    pub fn leave_out(&mut self, arrival: Arrival) {
+        self.may_write(arrival);
+    }
+
     /// Whether a record need not be written. Of a stray, which has no payload, h2audit counts packets alone.
     fn spares(&mut self, arrival: Arrival, sender: Option<Sender>, segment: &Written<'_>) -> bool {
         let is_as_it_stands = !self.is_made && (segment.is_whole || sender.is_none());

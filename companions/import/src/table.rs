@@ -123,7 +123,7 @@ pub struct Table {
     waiting: HashMap<Random, Vec<(usize, usize)>>,
     /// How many fragments belong to connections, by their numbers.
     fragments: HashMap<usize, u64>,
-    /// Whether connections are joined behind gaps; and of those of TLS with gaps, what their records go on with.
+    /// Whether connections are joined; and of those of TLS with gaps, what their records go on with.
     pub is_joining: bool,
     behind: HashMap<usize, Box<tls::TlsConnection>>,
 }
@@ -311,10 +311,15 @@ impl Table {
         }
     }
 
-    /// Counts a segment of no connection, and writes its headers, for h2audit to name it.
+    /// Counts a segment of no connection, and writes its headers, for h2audit to name it: where connections are joined,
+    /// those of its pair's first one alone.
     fn stray(&mut self, sink: &mut Sink<'_>, arrival: Arrival, segment: &Segment<'_>, number: usize) -> Stray {
-        let flow = self.unopened[number].take(segment);
-        sink.emit(arrival, None, Written::headers(segment, &mut [0; HEADERS]));
+        let pair = &mut self.unopened[number];
+        let flow = pair.take(segment);
+        match self.is_joining && pair.segments > 1 {
+            false => sink.emit(arrival, None, Written::headers(segment, &mut [0; HEADERS])),
+            true => sink.leave_out(arrival),
+        }
         Stray { pair: number, flow }
     }
 

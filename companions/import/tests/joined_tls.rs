@@ -65,8 +65,8 @@ fn tcp_is_told_by_the_packets() {
     match &outcome.became {
         Became::Read(read) => {
             assert!(read.skipped.is_some() && read.protocol.is_none());
-            // Beside the plaintext, each packet's headers stand among those of no connection.
-            assert_eq!(listener.state, [read.records + last.packet, summary.joined[0].records]);
+            // Beside the plaintext, the first packet's headers stand among those of no connection.
+            assert_eq!(listener.state, [read.records + 1, summary.joined[0].records]);
         }
         other => panic!("{}", other.words()),
     }

@@ -5,7 +5,7 @@ use std::ffi::OsStr;
 use import::{Addresses, Became as Outcome, Listener, Record, Summary};
 use programs::{temporary_failure, Failure};
 
-use crate::original::{Became, Joined, Original, OriginalConnection, Other, SideRead};
+use crate::original::{Became, Joined, Original, OriginalConnection, Other, SideRead, Unopened};
 
 /// A map that is kept in memory.
 #[derive(Default)]
@@ -72,6 +72,10 @@ impl Keeping {
                 let joined = Joined::of(&one.how, one.bytes, one.is_one_way, import::joined_lines(one));
                 self.original.add_joined(outcome.opening, joined);
             }
+        }
+        for pair in &summary.unopened {
+            let known = Unopened { segments: pair.segments, fate: None };
+            self.original.add_unopened(self.addresses.endpoints(&pair.ends), known);
         }
     }
 }

@@ -9,5 +9,5 @@ mod report;
 
 pub use beginning::Beginning;
 pub use keeping::Keeping;
-pub use original::{Became, Joined, Original, OriginalConnection, Other, SideRead};
+pub use original::{Became, Joined, Original, OriginalConnection, Other, SideRead, Unopened};
 pub use report::{bring_back, no_report, Broken, Shown};

@@ -81,6 +81,13 @@ impl Joined {
     }
 }
 
+/// A pair of endpoints that was not seen to open a connection: all its segments before any opening, of which the capture
+/// that was made may have the first alone; and what became of it, where that was asked for.
+pub struct Unopened {
+    pub segments: u64,
+    pub fate: Option<String>,
+}
+
 /// Packets that hold no TCP segment, by what they are.
 pub struct Other {
     pub name: String,
@@ -97,8 +104,8 @@ pub struct Original {
     connections: HashMap<u64, OriginalConnection>,
     /// Those that were joined, likewise.
     joined: HashMap<u64, Joined>,
-    /// What became of pairs of endpoints that were not seen to open a connection, where that was asked for.
-    fates: HashMap<(String, String), String>,
+    /// Pairs of endpoints that were not seen to open a connection, where these are joined.
+    unopened: HashMap<(String, String), Unopened>,
     /// What is to be said of times that go back.
     pub back: Option<String>,
     pub others: Vec<Other>,
@@ -115,7 +122,7 @@ impl Default for Original {
             capture: Capture::default(),
             connections: HashMap::new(),
             joined: HashMap::new(),
-            fates: HashMap::new(),
+            unopened: HashMap::new(),
             back: None,
             others: Vec::new(),
             is_audited: false,
@@ -159,13 +166,13 @@ impl Original {
         self.joined.get(&opening)
     }
 
-    /// What became of two endpoints, of which the first one sent the first packet.
-    pub fn add_fate(&mut self, ends: (String, String), fate: String) {
-        self.fates.insert(ends, fate);
+    /// A pair of endpoints, of which the first one sent the first segment.
+    pub fn add_unopened(&mut self, ends: (String, String), pair: Unopened) {
+        self.unopened.insert(ends, pair);
     }
 
-    pub fn take_fate(&mut self, ends: &(String, String)) -> Option<String> {
-        self.fates.remove(ends)
+    pub fn take_unopened(&mut self, ends: &(String, String)) -> Option<Unopened> {
+        self.unopened.remove(ends)
     }
 
     /// How many connections could be read that a report has.

@@ -9,7 +9,7 @@ use reports::rows::Rows;
 use reports::{finding_in, is_fault, read_line, Capture, Finding, Flow, Form, Line, Opening, Stall, LONGEST_LINE};
 
 use crate::beginning::{Beginning, Behind, Claim};
-use crate::original::{Became, Joined, Original};
+use crate::original::{Became, Joined, Original, Unopened};
 
 /// Why no report of the original was written, or not all of it.
 pub enum Broken {
@@ -190,9 +190,9 @@ impl<W: Write> Back<'_, W> {
 
     fn unopened(&mut self, sender: &str, receiver: &str, segments: u64) -> Result<(), Broken> {
         let (sender, receiver) = (self.endpoint(sender)?, self.endpoint(receiver)?);
-        if let Some(rows) = &mut self.rows {
-            rows.fate(self.original.take_fate(&(sender.clone(), receiver.clone())));
-        }
+        let known = self.original.take_unopened(&(sender.clone(), receiver.clone()));
+        let Unopened { segments, fate } = known.unwrap_or(Unopened { segments, fate: None });
+        self.rows.iter_mut().for_each(|rows| rows.fate(fate.clone()));
         self.put(format!("unopened {sender} {receiver} segments {segments}\n").as_bytes())
     }
 

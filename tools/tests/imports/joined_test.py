@@ -36,6 +36,7 @@ from tools.tests.joined_cuts import (
     packets_of_script,
     segment_of,
 )
+from tools.tests.pcapng_blocks import interface, packet, section
 
 RUNS = ("$H2AUDIT",)
 PROGRAM = ""
@@ -154,18 +155,28 @@ class Made(unittest.TestCase):
         (self.folder / name).write_bytes(pcap_of(packets, RAW))
 
     def test_all_else_stays(self) -> None:
-        """What is made without --joined comes first, byte for byte, and so do the numbers of other connections."""
+        """What is made without --joined comes first, byte for byte, but of a pair that opened no connection the first
+        packet alone; and so do the numbers of other connections.
+        """
         host = bytes([10, 0, 0, 9]) * 2
         other = [Packet(one.nanos, one.data[:12] + host + one.data[20:], one.original) for one in self.packets]
         self.source("in.pcap", self.packets[12:] + other)
         plain, plain_map = self.made("in.pcap")
         both, both_map = self.made("in.pcap", "--joined")
-        self.assertTrue(both.startswith(plain) and len(both) > len(plain))
+        records, strays = read_pcap(plain)[0], len(self.packets) - 12
+        first, rest = (24 + sum(16 + len(one.data) for one in records[:count]) for count in (1, strays))
+        self.assertTrue(both.startswith(plain[:first] + plain[rest:]))
         self.assertEqual((plain_map[0], both_map[0]), ("h2audit-map 1", "h2audit-map 2"))
-        kept = [line for line in plain_map[1:] if not line.startswith("unopened")]
+        kept = [line for line in plain_map[1:] if not line.startswith(("record", "unopened"))]
         left = iter(both_map)
         self.assertTrue(all(line in left for line in kept), "in this order")
-        behind = read_pcap(both)[0][len(read_pcap(plain)[0]) :]
+        self.assertIn(next(line for line in plain_map if line.startswith("unopened")), both_map)
+        places, both_places = (
+            [line.split()[2:] for line in one if line.startswith("record")] for one in (plain_map, both_map)
+        )
+        places[1:strays] = []
+        self.assertEqual(both_places[: len(places)], places)
+        behind = read_pcap(both)[0][len(places) :]
         made = sum(line.startswith("made ") for line in both_map)
         self.assertEqual(
             [one.data for one in behind[made:]], [one.data for one in self.packets[12:]], "no packet is altered"
@@ -179,6 +190,17 @@ class Made(unittest.TestCase):
         plain, plain_map = self.made("in.pcap")
         both, both_map = self.made("in.pcap", "--joined")
         self.assertEqual((both, both_map[1:]), (plain, plain_map[1:]))
+
+    def test_a_time_that_cannot_be_written(self) -> None:
+        """It is refused, also of a packet of which nothing is."""
+        packets = packets_of_script([f"C {hexed(b'no frames of HTTP/2. ' * 99)}"] * 9)
+        times = [one.nanos for one in packets[:-1]] + [2**63 - 1]
+        blocks = [packet("<", 0, time, (0, 0, one.original, one.data)) for time, one in zip(times, packets)]
+        (self.folder / "in.pcapng").write_bytes(b"".join([section(), interface("<", RAW, 9), *blocks]))
+        for is_joined in (False, True):
+            words = ["--joined"] * is_joined
+            run = subprocess.run([IMPORT, *words, "-o", "-", self.folder / "in.pcapng"], capture_output=True)
+            self.assertEqual((run.returncode, b"refused: bad-time" in run.stderr), (3, True), run.stderr)
 
     def test_where_packets_wait(self) -> None:
         """In a capture that can be read twice, or else beside it: what is made is the same, also behind gaps."""
