@@ -14,7 +14,8 @@ use std::time::Duration;
 use std::{io, thread};
 
 use programs::{
-    beside_or_in_path, printable, say, temporary_failure, Audit, Cleanup, Failure, Guard, Progress, Running, H2AUDIT,
+    auditor, beside_or_in_path, printable, say, temporary_failure, Audit, Cleanup, Failure, Guard, Progress, Running,
+    H2AUDIT,
 };
 
 use crate::NAME;
@@ -137,8 +138,8 @@ fn parts_in(folder: &Path) -> io::Result<Vec<(PathBuf, u64)>> {
 fn audit_part(program: &OsStr, options: &[String], part: &Path) -> Result<Running, Failure> {
     let path = part.with_extension("report");
     let report = File::create(&path).map_err(|error| Failure::of_file(&path, &error))?;
-    let mut command = Command::new(program);
-    command.args(options).arg(part).stdout(Stdio::from(report));
+    let mut command = auditor(program, options);
+    command.arg(part).stdout(Stdio::from(report));
     Running::start_telling(&mut command).map(|(running, _)| running)
 }
 

@@ -4,11 +4,11 @@ use std::ffi::OsStr;
 use std::fs::File;
 use std::io::{self, BufReader, Read, Seek};
 use std::path::Path;
-use std::process::{Command, Stdio};
+use std::process::Stdio;
 
 use import::{MadeCapture, RecordsOf};
 use originals::{bring_back, no_report, Original};
-use programs::{printable, temporary_failure, Audit as Running, Failure, Output, H2AUDIT};
+use programs::{auditor, printable, temporary_failure, Audit as Running, Failure, Output, H2AUDIT};
 use reports::ReadError;
 
 use crate::answer::{Answer, Certainty, ConnectionSaid};
@@ -53,8 +53,8 @@ pub fn audited(
     let (path, records) = (capture.path()?, &capture.records());
     let mut said = tempfile::tempfile().map_err(|error| temporary_failure(&error))?;
     let errors = said.try_clone().map_err(|error| temporary_failure(&error))?;
-    let mut command = Command::new(program);
-    let Running { mut report, running } = Running::of(command.args(options).arg(path).stderr(Stdio::from(errors)))?;
+    let mut command = auditor(program, options);
+    let Running { mut report, running } = Running::of(command.arg(path).stderr(Stdio::from(errors)))?;
     let read = match copy {
         None => read_audits(report, records, of_h2audit),
         Some(file) => copied(&mut report, file).and_then(|()| read_audits(BufReader::new(&*file), records, of_h2audit)),

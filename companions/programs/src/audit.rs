@@ -23,6 +23,18 @@ pub fn program_named(named: Option<OsString>) -> Result<OsString, Failure> {
     })
 }
 
+/// A run of h2audit with these options, by one thread where they ask for no other number and for no credits: that one
+/// audits a capture as it reads it, keeps nothing of it, and takes less time than several in all.
+pub fn auditor(program: &OsStr, options: &[String]) -> Command {
+    let mut command = Command::new(program);
+    let is_asked = |name| options.iter().any(|option| option.starts_with(name));
+    if !is_asked("--workers") && !is_asked("--frames") {
+        command.arg("--workers=1");
+    }
+    command.args(options);
+    command
+}
+
 /// An audit that runs, and its report.
 pub struct Audit {
     pub report: BufReader<ChildStdout>,
@@ -32,7 +44,7 @@ pub struct Audit {
 impl Audit {
     /// One run of the program, which says what is wrong.
     pub fn start(program: &OsStr, options: &[String], capture: &Path) -> Result<Audit, Failure> {
-        Audit::start_telling(Command::new(program).args(options).arg(capture))
+        Audit::start_telling(auditor(program, options).arg(capture))
     }
 
     /// A program whose report is read, and which says what is wrong.

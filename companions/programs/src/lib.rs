@@ -18,7 +18,7 @@ mod said;
 mod signals;
 mod words;
 
-pub use audit::{program_named, Audit, H2AUDIT};
+pub use audit::{auditor, program_named, Audit, H2AUDIT};
 pub use failure::{io_reason, Failure, Outcome};
 pub use input::{is_typed, Input};
 pub use messages::{printable, say};
