@@ -471,7 +471,7 @@ class Hostile(unittest.TestCase):
         self.file("killed", b"#!/bin/sh\nkill -9 $$\n")
         os.chmod(f"{self.folder.name}/killed", 0o755)
         self.check([
-            ("$ANY --h2audit /bin/cat -k $K $P", 4, "h2audit-any: h2audit: what it said is no report"),
+            ("$ANY --h2audit /bin/echo -k $K $P", 4, "h2audit-any: h2audit: what it said is no report"),
             ("$ANY --h2audit /bin/false -k $K $P", 4, "h2audit-any: h2audit: what it said is no report"),
             ("$ANY --h2audit $D/killed -k $K $P", 4, "h2audit-any: D/killed: ended by signal 9"),
             ("$ANY --h2audit $D/none -k $K $P", 4, "h2audit-any: D/none: No such file or directory"),

@@ -224,12 +224,18 @@ class Written(unittest.TestCase):
     """What is made, and in which order."""
 
     def test_all_else_stays(self) -> None:
-        """What is made without --joined comes first, to the byte, and numbers stay."""
+        """What is made without --joined comes first, to the byte, but of strays the first of each pair alone."""
         packets, link = packets_in(capture_named("h2load-node-many"))
         source = pcap_of(packets[len(packets) // 2 :] + packets, link)
         plain = imported(*key_log_of("h2load-node-many"), input=source)
         both = imported("--joined", *key_log_of("h2load-node-many"), input=source)
-        self.assertTrue(both.bytes.startswith(plain.bytes) and len(both.bytes) > len(plain.bytes))
+        strays = len(packets) - len(packets) // 2
+        places, others = ([line.split()[2:] for line in one.map if line.startswith("record ")] for one in (plain, both))
+        kept = [at for at, place in enumerate(places) if at >= strays or place in others[:strays]]
+        self.assertEqual(sum(at < strays for at in kept), sum(line.startswith("unopened ") for line in plain.map))
+        self.assertEqual(others[: len(kept)], [places[at] for at in kept])
+        self.assertEqual(both.packets[: len(kept)], [plain.packets[at] for at in kept])
+        self.assertGreater(len(both.packets), len(kept))
         numbers = [int(line.split()[1]) for line in both.map if line.startswith(("record ", "made "))]
         self.assertEqual(numbers, list(range(1, len(both.packets) + 1)))
         self.assertGreater(sum(line.startswith("joined inferred") for line in both.map), 8)
