@@ -37,7 +37,7 @@
 //!   takes a connection's segments one by one, with their payloads, and its `finish` says of both flows, as `assemble`
 //!   has them of whatever capture the payloads stand in, which kind of cut they have, and where they end
 //!   (`HasHandedFrames` of `specs/code/ConnectionFrames.antt`). By [`laws::ending_tells_the_cut`] that is the cut which
-//!   [`cut_by`] finds. No report is made by it yet.
+//!   [`cut_by`] finds.
 //! - A frame that is numbered within its side has a type of its own (`SideFrame`), and becomes a frame of the
 //!   connection where it gets its number there.
 //! - Frames are orderly, as calls on frames require: numbers rise, streams have 31 bits and lengths 24, times are below

@@ -31,7 +31,7 @@
 //!   number. At the end what was handed on is both flows (`HasHandedOn` of `specs/code/Flows.antt`), of whatever
 //!   capture the payloads stand in, and how long they are is told. Payloads that are shorter than 2^31 together make
 //!   flows that are, which the visitor may rely on (`IsNextGrowth`). One engine, `SideFlow`, serves this and
-//!   [`assemble`], which keeps no bytes (`Content`). No report is made by it yet.
+//!   [`assemble`], which keeps no bytes (`Content`).
 //! - Pairs of endpoints are looked up by a hash (`TableHash` of `input_output`), and the contract of [`connections`]
 //!   holds for every key of it.
 //! - The prover refuses: a last retransmission that wins, a SYN of any number that repeats an opening, a segment that

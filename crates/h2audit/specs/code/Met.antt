@@ -40,12 +40,13 @@ abbrev pub last_first : Option Segment → ℕ
 last_first None = 0
 last_first (Some s) = s.rec
 
--- these segments came, none of a record above `last`, and their frames were met
+-- of these segments no frame can have been met: there is one at most, without payload
 pub record IsWaiting (sent : List Sent) (last : ℕ) (first : Option Segment) : Type 0 where
   pub are : sent ≡ first_sent first
   pub record_is : last ≡ last_first first
   pub is_first : IfSome first IsFirst
 
+-- these segments came, none of a record above `last`, and their frames were met
 abbrev pub AreMet : (opening : Segment) → List Sent → (last : ℕ) → Met → Type 0
 AreMet opening sent last (Waits first) = IsWaiting sent last first
 AreMet opening sent last (Frames findings) = HasMetSent opening sent last findings.value
