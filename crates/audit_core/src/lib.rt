@@ -23,7 +23,7 @@
 //!   nothing there. From this the law on parts follows.
 //! - Refused by the prover in other crates, on the same definitions: content of a reset stream that the connection does
 //!   not count, in `quiet_pass`; and wrong bodies of the calls that it makes with these, as a change that counts before
-//!   its acknowledgement in `settings_pair`.
+//!   its acknowledgement in `fault_rules`.
 //! - Tested, in `crate_tests`: that both succeed where there is memory, that the rounds show what `one_pass` does of
 //!   random frames, and that one worker goes through no round where `shown_in_one_pass` has an answer. Neither proved
 //!   nor tested: when it has none.

@@ -16,8 +16,7 @@ use audit_terms::{
     Change, ConnectionState, FIRST_WINDOW, Finding, Frame, Item, Sides, cut_at_stop, initial_after,
     keep_shown, put_in_order,
 };
-use fault_rules::{keep_last, say_connection, say_local};
-use settings_pair::{Pairs, pair, say_unmatched};
+use fault_rules::{Pairs, keep_last, pair, say_connection, say_local, say_unmatched};
 use std::alloc::{AllocError, Global};
 
 /// The plain pass over a connection's frames in capture order: all findings, in order, up to and including the first

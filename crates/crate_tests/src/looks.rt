@@ -10,7 +10,7 @@ use crate::Answer;
 use crate::frames::{acknowledgement, are_orderly, data, headers, initial_window};
 use audit_terms::{Change, ConnectionState, Finding, Frame, Kind, Look, Place, Side};
 use conn_scan::{Block, block_findings};
-use settings_pair::pair;
+use fault_rules::pair;
 use std::alloc::{AllocError, Global};
 use stream_credit::{Changes, StreamPart, StreamRun, stream_run};
 

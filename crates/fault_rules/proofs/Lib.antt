@@ -1,3 +1,4 @@
+mod ChangeLemmas
 mod Plain
 mod ShareLemmas
 mod Terms

@@ -15,12 +15,12 @@ use Rattle.audit_terms.specs.Pass.{first_of, streams_of, item_of}
 use Rattle.audit_terms.specs.code.runs.States.{state_from}
 use Rattle.stream_credit.proofs.QuietSteps.{both, unsaid}
 use Rattle.audit_terms.specs.declared.last_frames.LastFrame.{LastFrame}
-use Rattle.settings_pair.specs.declared.pending_settings.Pending.{Pending}
+use Rattle.fault_rules.specs.declared.pending_settings.Pending.{Pending}
 use Rattle.quiet_pass.specs.declared.passes.QuietPass.{QuietPass}
 use Rattle.quiet_pass.specs.declared.all_streams.AllStreams.{AllStreams}
 use Rattle.stream_credit.specs.code.Standings.{IsQuiet, AreQuiet}
 use Rattle.audit_terms.specs.code.LastFrame.{last_of}
-use Rattle.settings_pair.specs.code.Pending.{IsPending, IsBrought}
+use Rattle.fault_rules.specs.code.Pending.{IsPending, IsBrought}
 use Rattle.quiet_pass.specs.code.Connection.{as_item, IsConnectionAfter}
 use Rattle.quiet_pass.specs.code.AllStreams.{AreKept}
 use Rattle.quiet_pass.specs.code.Streams.{AreMet, AreMetOn}

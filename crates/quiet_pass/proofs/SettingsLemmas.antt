@@ -17,7 +17,7 @@ use Rattle.quiet_pass.specs.code.AllStreams.{AreKept}
 use Rattle.quiet_pass.specs.code.Streams.{IsChangeSaid}
 use Rattle.quiet_pass.specs.declared.all_streams.AllStreams.{AllStreams}
 use Rattle.quiet_pass.specs.declared.passes.QuietPass.{QuietPass}
-use Rattle.settings_pair.specs.code.Pending.{IsBrought, IsPending}
+use Rattle.fault_rules.specs.code.Pending.{IsBrought, IsPending}
 use Rattle.stream_credit.proofs.Words.{◌≡◌, ℕ, ◌&&◌, Bool, false, List, [], ◌∷◌, ◌++◌, Option, refl, sym}
 use Rattle.stream_credit.proofs.Words.{ap, ◌∙◌, subst, is_ack, is_none, pos, say}
 use Rattle.stream_credit.proofs.Words.{Change, ConnectionState, Finding, Frame, InForce, Sides}

@@ -24,7 +24,7 @@
 //! - Streams are gone through in the order of rows, and the definitions say in that of their first frames. Findings are
 //!   put in order by place, so the order makes no difference, nor do streams of which nothing is shown.
 //! - It keeps of each side's last frame whether a field block goes on after it, and of which stream.
-//! - It keeps SETTINGS until the end (`settings_pair::Pending`): connections have few. A change that moves an initial
+//! - It keeps SETTINGS until the end (`fault_rules::Pending`): connections have few. A change that moves an initial
 //!   window updates all streams (RFC 9113, 6.9.2). Past 64 updates for each frame so far, rows hold credits less a
 //!   shift (`shift_ranges`), so that a change moves the shift, and no row. What it shows is found by groups of rows
 //!   (`row_groups`): of each the shifts are kept between any two of which nothing is shown of its rows. Where a row is

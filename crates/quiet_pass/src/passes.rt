@@ -16,7 +16,7 @@ use crate::kept_connection::KeptConnection;
 use crate::kept_streams::Meeting;
 use crate::quiet_frames::is_followed;
 use audit_terms::{Body, Change, FIRST_WINDOW, Frame, LastFrame, Side, Sides};
-use settings_pair::Pending;
+use fault_rules::Pending;
 use std::alloc::{AllocError, Global};
 
 /// A connection between two of its frames, for as long as it is quiet.

@@ -17,7 +17,7 @@ use crate::passes::{QuietPass, is_unmatched, keep_last};
 use crate::quiet_frames::is_followed;
 use crate::said_frames::shows_stop;
 use audit_terms::{Change, Finding, Frame, Step, initial_after};
-use settings_pair::say_unmatched;
+use fault_rules::say_unmatched;
 use std::alloc::{AllocError, Global};
 
 /// How many rows changes may move for each frame so far: a change that moves windows updates all of them.

@@ -22,7 +22,7 @@
 //!   wrongly, windows below zero, settings that reach open and later streams, windows that open at 0, overruns, both
 //!   overflows, a promised stream, a run that ends at a stop.
 //! - Asked of the caller: rising numbers, and that a frame with the number of a change is an acknowledgement, as
-//!   `settings_pair` gives them.
+//!   `fault_rules` gives them.
 //! - Refused by the prover: settings that reach open streams only, a run that never looks, looks once or looks ahead of
 //!   its work, one that leaves out all once it is stopped, one that counts a side's last DATA as any other, initial
 //!   windows that another setting puts back, a stream that frame 0 opens kept as one that no frame opens.

@@ -15,7 +15,7 @@ use Rattle.audit_terms.specs.code.runs.Streams.{initial_after}
 use Rattle.quiet_pass.specs.declared.passes.QuietPass.{QuietPass}
 use Rattle.stream_credit.specs.code.Standings.{AreQuiet}
 use Rattle.audit_terms.specs.code.LastFrame.{last_of}
-use Rattle.settings_pair.specs.code.Pending.{IsPending, IsBrought}
+use Rattle.fault_rules.specs.code.Pending.{IsPending, IsBrought}
 use Rattle.quiet_pass.specs.code.Connection.{IsConnectionAfter}
 use Rattle.quiet_pass.specs.code.AllStreams.{AreKept}
 use Rattle.quiet_pass.specs.code.Streams.{AreMet}

@@ -1,6 +1,6 @@
-use Rattle.std.proofs.Common.{◌≡◌, None, Option, Some, ap, is_none, refl, sym, ◌∙◌}
-use Rattle.settings_pair.proofs.Words.{Frame, Settings, change_taking, taken}
-use Rattle.settings_pair.proofs.pairing.meet.Goals as goal
+use Rattle.fault_rules.proofs.Terms.{◌≡◌, Frame, None, Option, Settings, Some, ap, change_taking, refl, sym, taken, ◌∙◌}
+use Rattle.std.proofs.Common.{is_none}
+use Rattle.fault_rules.proofs.pairing.meet.Goals as goal
 
 -- a frame that takes settings brings a change
 none-taken : (frame : Frame) (settings : Option Settings) → is_none (change_taking frame settings) ≡ is_none settings

@@ -1,6 +1,6 @@
 //! Worked examples: what the acknowledgements of short scripts take, computed from the definitions by proof. The
 //! functions do nothing; each contract is the example.
-ghost use Rattle.settings_pair.specs.examples.Pair.{NegativeWindow, OldestFirst, NothingToTake};
+ghost use Rattle.fault_rules.specs.examples.Pair.{NegativeWindow, OldestFirst, NothingToTake};
 
 /// A lower initial window counts from its acknowledgement (RFC 9113, 6.5.3, 6.9.2).
 pub fn negative_window()

@@ -3,7 +3,7 @@ use Rattle.std.specs.Prelude.{◌≡◌, Option}
 use Rattle.audit_terms.specs.declared.frames.Frame.{Frame}
 use Rattle.audit_terms.specs.declared.items.Change.{Change}
 use Rattle.audit_terms.specs.InForce.{InForce, change_of, in_force_after}
-use Rattle.settings_pair.specs.declared.pending_settings.Pending.{Pending}
+use Rattle.fault_rules.specs.declared.pending_settings.Pending.{Pending}
 
 -- what is kept of the settings that stand
 pub record IsPending (now : InForce) (pending : Pending) : Type 0 where

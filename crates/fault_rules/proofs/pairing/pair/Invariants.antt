@@ -1,7 +1,6 @@
-use Rattle.std.proofs.Common.{◌≡◌, ◌++◌, ℕ, drop}
-use Rattle.settings_pair.proofs.Words.{IsOrderlyFrom, InForce, changes_from, changes_of, settings_run_from}
-use Rattle.settings_pair.proofs.Words.{settings_run, IsPending}
-use Rattle.settings_pair.proofs.pairing.pair.Given as goal
+use Rattle.fault_rules.proofs.Terms.{◌≡◌, ◌++◌, ℕ, drop, changes_from, changes_of, settings_run, settings_run_from}
+use Rattle.fault_rules.proofs.Terms.{InForce, IsOrderlyFrom, IsPending}
+use Rattle.fault_rules.proofs.pairing.pair.Given as goal
 
 -- what was found so far, and what the rest shows from the settings in force there, is the whole answer
 abbrev pub invariant-loop-frame : goal.invariant-loop-frame

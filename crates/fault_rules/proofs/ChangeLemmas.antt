@@ -1,10 +1,9 @@
 -- The changes of orderly frames are orderly, and each is that of an acknowledgement.
-use Rattle.settings_pair.proofs.Words.{AreAcknowledged, AreOrderlyFrom, Change, Frame, InForce, IsInRange, IsOrderly}
-use Rattle.settings_pair.proofs.Words.{IsOrderlyFrom, Settings, change_taking, changes_from, changes_of, in_force_after}
-use Rattle.settings_pair.proofs.Words.{initial_in_force, is_ack, option_to_list, taken}
-use Rattle.std.proofs.Common.{All, List, None, Option, Some, [], arith, is_some, refl, true, ℕ, ◌++◌, ◌+◌, ◌∷◌, ◌≡◌}
-use Rattle.std.proofs.{Common.◌≤◌, lemmas.List.Elements.All-from_recursion, lemmas.List.Elements.All-weaker}
-use Rattle.std.specs.List.{AllByRecursion}
+use Rattle.fault_rules.proofs.Terms.{All, AllByRecursion, All-from_recursion, AreAcknowledged, AreOrderlyFrom, Change}
+use Rattle.fault_rules.proofs.Terms.{Frame, InForce, IsInRange, IsOrderly, IsOrderlyFrom, List, None, Option, Settings}
+use Rattle.fault_rules.proofs.Terms.{Some, [], arith, change_taking, changes_from, changes_of, in_force_after, is_ack}
+use Rattle.fault_rules.proofs.Terms.{initial_in_force, option_to_list, refl, taken, true, ℕ, ◌++◌, ◌+◌, ◌∷◌, ◌≡◌, ◌≤◌}
+use Rattle.std.proofs.{Common.is_some, lemmas.List.Elements.All-weaker}
 
 orderly-lower : (low lower : ℕ) (changes : List Change) → lower ≤ low → AreOrderlyFrom low changes
     → AreOrderlyFrom lower changes

@@ -5,7 +5,7 @@ ghost use Rattle.audit_terms.specs.InForce.{InForce, in_force_after, change_of, 
 ghost use Rattle.audit_terms.specs.Frame.{is_ack};
 ghost use Rattle.audit_terms.specs.code.runs.Changes.{AreAcknowledged, AreOrderly, changes_of, settings_run};
 ghost use Rattle.audit_terms.specs.Finding.{finding_at, say};
-ghost use Rattle.settings_pair.specs.code.Pending.{IsPending};
+ghost use Rattle.fault_rules.specs.code.Pending.{IsPending};
 
 use crate::pending_settings::Pending;
 use audit_terms::{Change, Finding, Frame, Kind, say_if};

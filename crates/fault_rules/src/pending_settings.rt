@@ -5,7 +5,7 @@ ghost use Rattle.audit_terms.specs.Side.{other};
 ghost use Rattle.audit_terms.specs.Sides.{side_of};
 ghost use Rattle.audit_terms.specs.Frame.{is_ack};
 ghost use Rattle.audit_terms.specs.InForce.{InForce, initial_in_force};
-ghost use Rattle.settings_pair.specs.code.Pending.{IsPending, IsBrought};
+ghost use Rattle.fault_rules.specs.code.Pending.{IsPending, IsBrought};
 
 use audit_terms::{Body, Change, Frame, PackedSettings, Settings, Side, Sides, change_by};
 use std::alloc::{AllocError, Global};

@@ -1,8 +1,8 @@
 use Rattle.audit_terms.proofs.OrderlyFrames.{drop-at}
-use Rattle.settings_pair.proofs.OrderLemmas.{changes_from-orderly, changes_of-acknowledged}
-use Rattle.settings_pair.proofs.Words.{append-nil, changes_of, drop_all, in_force_after, initial_in_force}
-use Rattle.std.proofs.Common.{append_assoc, refl, ◌+◌, ◌≡◌}
-use Rattle.settings_pair.proofs.pairing.pair.Goals as goal
+use Rattle.fault_rules.proofs.ChangeLemmas.{changes_from-orderly, changes_of-acknowledged}
+use Rattle.fault_rules.proofs.Terms.{append-nil, append_assoc, changes_of, drop_all, in_force_after, initial_in_force}
+use Rattle.fault_rules.proofs.Terms.{refl, ◌+◌, ◌≡◌}
+use Rattle.fault_rules.proofs.pairing.pair.Goals as goal
 
 pub loop-frame-init : goal.loop-frame-init
 loop-frame-init c = record {

@@ -1,2 +1,0 @@
-pub mod examples
-pub mod code
