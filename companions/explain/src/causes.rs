@@ -88,12 +88,22 @@ impl Held<'_> {
         named.extend((0..2).filter_map(|side| self.unshown(side)));
         let held = named.iter().filter(|cause| is_window(cause)).map(|cause| cause.nanos).max().unwrap_or(0);
         let hung = most_of(named.iter().filter_map(|cause| self.hung(cause)), |hung| hung.0.nanos);
-        let path = if named.is_empty() { self.path() } else { None };
-        let cause = hung.map(|hung| hung.0).or(path).or_else(|| {
-            named.extend(self.of_application());
-            longest(named)
-        });
-        NamedCause { cause: cause.unwrap_or_else(|| self.unseen()), held, hung: hung.map(|hung| hung.1) }
+        match hung {
+            Some((cause, nanos)) => NamedCause { cause, held, hung: Some(nanos) },
+            None => NamedCause { cause: self.not_hung(named), held, hung: None },
+        }
+    }
+
+    /// The one that took most, or where no window and no TCP did, the path or an application.
+    fn not_hung(&self, mut named: Vec<Cause>) -> Cause {
+        if self.request.nanos() >= LEAST_IDLE {
+            let path = if named.is_empty() { self.path() } else { None };
+            if let Some(path) = path {
+                return path;
+            }
+            self.of_application(&mut named);
+        }
+        longest(named).unwrap_or_else(|| self.unseen())
     }
 
     /// Most of its life was not seen, or nothing held it back.
@@ -225,9 +235,6 @@ impl Held<'_> {
 
     /// A side sent all the time, this stream or others, so that what all of them need took the time.
     fn path(&self) -> Option<Cause> {
-        if self.request.nanos() < LEAST_IDLE {
-            return None;
-        }
         let of_side = |side: usize| {
             let (said, beside) = (&self.request.sides[side], &self.stream.sides[side].beside);
             let nanos = self.share(side, Share::Sending) + self.share(side, Share::Others);
@@ -248,22 +255,31 @@ impl Held<'_> {
 
     /// A side that sent nothing though it had credit: between two frames, or before its first. Of a request that never
     /// ended it is a side that did not end it, the client first, which opened it.
-    fn of_application(&self) -> Vec<Cause> {
-        if self.request.nanos() < LEAST_IDLE {
-            return Vec::new();
+    fn of_application(&self, named: &mut Vec<Cause>) {
+        let before = named.len();
+        for side in (0..2).filter(|side| self.ends[*side] != How::EndStream) {
+            self.of_idle(side, named);
+            if named.len() > before {
+                return;
+            }
         }
-        let is_long = |cause: &Cause| {
-            let time = |at: Option<At>| at.map_or(0, |at| at.time);
-            let is_known =
-                !self.seen.may_wait(cause.side as usize, self.request.stream, (time(cause.first), time(cause.last)));
-            is_known
-                && cause.nanos >= LEAST_IDLE
-                && i128::from(cause.nanos) * IDLE_SHARE >= i128::from(self.request.nanos())
-        };
-        let of_side = |side: usize| [self.waited(side), self.between(side)].into_iter().flatten().filter(is_long);
-        let open = (0..2).filter(|side| self.ends[*side] != How::EndStream);
-        let asked = open.map(|side| of_side(side).collect::<Vec<_>>()).find(|causes| !causes.is_empty());
-        asked.unwrap_or_else(|| (0..2).flat_map(of_side).collect())
+        (0..2).for_each(|side| self.of_idle(side, named));
+    }
+
+    fn of_idle(&self, side: usize, named: &mut Vec<Cause>) {
+        named.extend(self.waited(side));
+        named.extend(self.between(side));
+    }
+
+    /// Whether a side is named that sent nothing for so long.
+    fn is_idle(&self, nanos: Nanos) -> bool {
+        nanos >= LEAST_IDLE && i128::from(nanos) * IDLE_SHARE >= i128::from(self.request.nanos())
+    }
+
+    /// Whether it may have waited for a window between two moments.
+    fn may_wait(&self, side: usize, first: Option<At>, last: Option<At>) -> bool {
+        let [first, last] = [first, last].map(|at| at.map_or(0, |at| at.time));
+        self.seen.may_wait(side, self.request.stream, (first, last))
     }
 
     fn application(&self, side: usize, why: CauseWhy, nanos: Nanos) -> Cause {
@@ -278,9 +294,13 @@ impl Held<'_> {
     /// How long a side took to begin after the other one's last frame before that.
     fn waited(&self, side: usize) -> Option<Cause> {
         let (said, one): (_, &Direction) = (&self.request.sides[side], &self.stream.sides[side]);
-        (said.waited > 0).then(|| Cause {
-            first: Some(one.asked),
-            last: said.first.or(said.end),
+        let (first, last) = (Some(one.asked), said.first.or(said.end));
+        if !self.is_idle(said.waited) || self.may_wait(side, first, last) {
+            return None;
+        }
+        Some(Cause {
+            first,
+            last,
             credit: self.credit(one.asked_credit),
             is_silent: one.was_silent,
             ..self.application(side, CauseWhy::Before, said.waited)
@@ -292,9 +312,13 @@ impl Held<'_> {
         let (said, one): (_, &Direction) = (&self.request.sides[side], &self.stream.sides[side]);
         let (begin, end) = one.life.longest_idle;
         let idle = one.idle.as_deref().copied().unwrap_or_default();
-        (end > begin).then(|| Cause {
-            first: idle.before.or(said.first),
-            last: idle.after.or(said.end),
+        let (first, last) = (idle.before.or(said.first), idle.after.or(said.end));
+        if !self.is_idle(end - begin) || self.may_wait(side, first, last) {
+            return None;
+        }
+        Some(Cause {
+            first,
+            last,
             credit: self.credit(idle.credit),
             is_silent: one.life.is_silent,
             ..self.application(side, CauseWhy::Between, end - begin)

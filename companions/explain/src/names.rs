@@ -104,7 +104,7 @@ pub fn shortened(text: &str) -> &str {
 
 /// What a terminal would act on, or what is no text, as an escape.
 pub fn escaped(text: &str) -> Cow<'_, str> {
-    match text.bytes().all(|byte| matches!(byte, b' '..=b'~')) {
+    match text.bytes().fold(true, |are, byte| are & matches!(byte, b' '..=b'~')) {
         true => Cow::Borrowed(text),
         false => Cow::Owned(programs::printable(text)),
     }
@@ -114,7 +114,13 @@ pub fn escaped(text: &str) -> Cow<'_, str> {
 pub fn name_of<'a>(method: Option<&'a str>, target: Option<&'a str>) -> Option<Rc<str>> {
     let some = |word: Option<&'a str>| word.filter(|word| !word.is_empty());
     let text = match (some(method), some(target)) {
-        (Some(method), Some(target)) => Cow::Owned([method, target].join(" ")),
+        (Some(method), Some(target)) => {
+            let mut text = String::with_capacity(method.len() + 1 + target.len());
+            text.push_str(method);
+            text.push(' ');
+            text.push_str(target);
+            Cow::Owned(text)
+        }
         (one, other) => Cow::Borrowed(one.or(other)?),
     };
     Some(shortened(&escaped(&text)).into())

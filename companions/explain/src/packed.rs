@@ -49,6 +49,16 @@ pub fn unpack(bytes: &[u8], round_trip: Nanos, has_spans: bool, stream: &mut Str
     unpack_lives(bytes, stream.opened.time, has_spans, stream);
 }
 
+/// Reads one of which no cause is sought; without what only causes are told from, where both its lives are divided up to
+/// their ends.
+pub fn unpack_uncaused(bytes: &[u8], round_trip: Nanos, stream: &mut Stream) {
+    let mut unpacker = unpacked_outline(bytes, stream);
+    unpack_lives(bytes, stream.opened.time, true, stream);
+    if !stream.sides.iter().all(|one| one.end.is_some() && one.life.at == one.life.until) {
+        stream.sides.iter_mut().for_each(|one| unpacker.direction(round_trip, one));
+    }
+}
+
 /// Reads of one that was opened at some time the lives of both directions, and nothing else.
 pub fn unpack_lives(bytes: &[u8], opened: Nanos, has_spans: bool, stream: &mut Stream) {
     let opened = At { time: opened, ..NOWHERE };

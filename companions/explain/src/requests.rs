@@ -8,7 +8,7 @@ use crate::answer::{Cause, Direction, Ended, How, Nanos, Request, Share, Shares}
 use crate::causes::{no_cause, Held, LEAST_HELD};
 use crate::legs::{Brief, LegKnown, Lived, Sent};
 use crate::names::{name_of, Texts};
-use crate::packed::{pack, unpack, unpack_lives, unpack_outline};
+use crate::packed::{pack, unpack, unpack_lives, unpack_outline, unpack_uncaused};
 use crate::seen::Seen;
 use crate::side_of;
 use crate::stream::{self, RequestFields, Stream};
@@ -33,10 +33,12 @@ impl Default for Room {
     }
 }
 
-/// What is told of a request that is packed: all of it, or not its names and spans.
+/// What is told of a request that is packed: all of it, which of one without a cause takes less; or not its names and
+/// spans.
 #[derive(Clone, Copy, PartialEq, Eq)]
 enum Wanted {
     All,
+    Uncaused,
     Sums,
 }
 
@@ -105,22 +107,21 @@ impl Requests {
     }
 
     pub fn get(&self, index: usize) -> Option<Request> {
-        self.read(index, Wanted::All, &mut Stream::empty())
+        self.tell(index, Wanted::All, &mut Stream::empty(), |request| request)
     }
 
-    /// One that is packed is read into some room.
-    fn read(&self, index: usize, wanted: Wanted, room: &mut Stream) -> Option<Request> {
-        match &self.packed {
-            Some(_) => self.told(index, wanted, room),
-            None => self.all.get(index).cloned(),
+    /// Tells someone of a request; one that is packed is read into some room.
+    #[inline]
+    fn tell<T>(&self, index: usize, wanted: Wanted, room: &mut Stream, to: impl FnOnce(Request) -> T) -> Option<T> {
+        let (packed, seen) = match &self.packed {
+            Some(packed) => &**packed,
+            None => return self.all.get(index).cloned().map(to),
+        };
+        if !packed.read(index, wanted, room) {
+            return None;
         }
-    }
-
-    /// It is told from a stream that is read into some room.
-    fn told(&self, index: usize, wanted: Wanted, room: &mut Stream) -> Option<Request> {
-        let packed = self.packed.as_ref()?;
-        let texts = self.texts.as_deref().filter(|_| wanted == Wanted::All);
-        packed.0.read(index, wanted != Wanted::Sums, room).then(|| told(room, &packed.1, texts))
+        let texts = self.texts.as_deref().filter(|_| wanted != Wanted::Sums);
+        Some(to(told(room, seen, texts, wanted)))
     }
 
     /// What is told of a packed request as one leg of a proxy's two, of which that much is known: it is read into some
@@ -135,7 +136,7 @@ impl Requests {
         };
         if may_be_of_leg(room, known, seen) || !is_divided(0) || !is_divided(1) {
             unpack(bytes, packed.round_trip, true, room);
-            let cause = told(&mut room.clone(), seen, None).cause;
+            let cause = told(&mut room.clone(), seen, None, Wanted::Sums).cause;
             for (side, end) in known.ends.into_iter().enumerate() {
                 room.sides[side].finish(&seen.about.holding(side, room.number), end, false);
             }
@@ -146,18 +147,40 @@ impl Requests {
 
     /// Each one by itself, in the order of openings.
     pub fn iter(&self) -> impl Iterator<Item = Request> + '_ {
-        self.at(0..self.len()).map(|one| one.1)
-    }
-
-    /// Those of these places.
-    pub fn at<'a>(&'a self, places: impl Iterator<Item = usize> + 'a) -> impl Iterator<Item = (usize, Request)> + 'a {
         let mut room = Stream::empty();
-        places.filter_map(move |index| Some((index, self.read(index, Wanted::All, &mut room)?)))
+        (0..self.len()).filter_map(move |index| self.tell(index, Wanted::All, &mut room, |request| request))
     }
 
-    /// All without names and spans where they are packed: each is read into some room.
-    pub fn unnamed<'a>(&'a self, room: &'a mut Room) -> impl Iterator<Item = Request> + 'a {
-        (0..self.len()).filter_map(move |index| self.read(index, Wanted::Sums, &mut room.0))
+    /// Tells of those of these places, one after the other. Of those that are known to have no cause none is sought.
+    pub fn each_at<E>(
+        &self,
+        places: impl Iterator<Item = usize>,
+        uncaused: &[bool],
+        mut each: impl FnMut(usize, &Request) -> Result<(), E>,
+    ) -> Result<(), E> {
+        let mut room = Stream::empty();
+        for index in places {
+            let wanted = if uncaused.get(index) == Some(&true) { Wanted::Uncaused } else { Wanted::All };
+            let mut spans = [None, None];
+            let done = self.tell(index, wanted, &mut room, |request| {
+                let done = each(index, &request);
+                spans = request.sides.map(|said| said.spans);
+                done
+            });
+            done.unwrap_or(Ok(()))?;
+            // The next one has its spans in the same room.
+            for (side, spans) in room.sides.iter_mut().zip(spans) {
+                side.life.spans = spans;
+            }
+        }
+        Ok(())
+    }
+
+    /// Tells of all without names and spans where they are packed: each is read into some room.
+    pub fn each_unnamed(&self, room: &mut Room, mut each: impl FnMut(usize, &Request)) {
+        for index in 0..self.len() {
+            self.tell(index, Wanted::Sums, &mut room.0, |request| each(index, &request));
+        }
     }
 }
 
@@ -245,13 +268,20 @@ impl Packed {
     /// The stream that was opened behind so many others, if it is packed.
     pub fn get(&self, index: usize) -> Option<Stream> {
         let mut stream = Stream::empty();
-        self.read(index, true, &mut stream).then_some(stream)
+        self.read(index, Wanted::All, &mut stream).then_some(stream)
     }
 
     /// Reads it into the place of another one, if it is packed.
-    fn read(&self, index: usize, has_spans: bool, stream: &mut Stream) -> bool {
-        let bytes = self.bytes_of(index);
-        bytes.map(|bytes| unpack(bytes, self.round_trip, has_spans, stream)).is_some()
+    fn read(&self, index: usize, wanted: Wanted, stream: &mut Stream) -> bool {
+        let bytes = match self.bytes_of(index) {
+            Some(bytes) => bytes,
+            None => return false,
+        };
+        match wanted {
+            Wanted::Uncaused => unpack_uncaused(bytes, self.round_trip, stream),
+            Wanted::All | Wanted::Sums => unpack(bytes, self.round_trip, wanted == Wanted::All, stream),
+        }
+        true
     }
 
     fn bytes_of(&self, index: usize) -> Option<&[u8]> {
@@ -268,24 +298,61 @@ impl Packed {
 }
 
 /// The request that a stream is.
-fn told(stream: &mut Stream, seen: &Seen, texts: Option<&Texts>) -> Request {
+#[inline]
+fn told(stream: &mut Stream, seen: &Seen, texts: Option<&Texts>, wanted: Wanted) -> Request {
+    let ends = ends_of(stream, seen);
+    let mut request = uncaused(stream, seen, texts, &ends);
+    if wanted != Wanted::Uncaused {
+        seek_cause(&mut request, stream, seen, &ends);
+    }
+    request
+}
+
+/// Seeks what held back a request, and what that alone is told from.
+fn seek_cause(request: &mut Request, stream: &Stream, seen: &Seen, ends: &[End; 2]) {
+    for side in (0..2).filter(|side| ends[*side].is_seen) {
+        let end = stream.opened.time + request.sides[side].nanos;
+        request.sides[side].waited = waited(&stream.sides[side], side, seen, end);
+    }
+    let found = Held { seen, stream, request, ends: [ends[0].ended.how, ends[1].ended.how] }.found();
+    request.cause = found.cause;
+    request.held = found.held;
+    request.is_hung = found.hung.is_some();
+    request.hung_nanos = found.hung.unwrap_or(0);
+}
+
+/// How a direction ended, and whether it was seen.
+struct End {
+    ended: Ended,
+    is_seen: bool,
+}
+
+impl End {
+    fn time(&self) -> Nanos {
+        self.ended.at.map_or(0, |at| at.time)
+    }
+}
+
+fn ends_of(stream: &Stream, seen: &Seen) -> [End; 2] {
     let was_open = seen.about.was_open(stream.number);
-    let is_unseen = |side: usize| was_open && is_unseen(stream, side);
-    let are_unseen = [0, 1].map(is_unseen);
-    let ends = [0, 1].map(|side| match are_unseen[side] {
-        true => Ended { how: How::EndStream, side: Some(side_of(side)), code: None, at: Some(stream.opened) },
-        false => seen.end_of(stream, side),
-    });
-    let time = |end: &Ended| end.at.map_or(0, |at| at.time);
-    let ended = if time(&ends[1]) > time(&ends[0]) { ends[1] } else { ends[0] };
-    let until = ends.iter().filter_map(|end| end.at).map(|at| at.time).fold(stream.opened.time, Nanos::max);
-    let sides = [0, 1].map(|side| match are_unseen[side] {
-        true => unseen(direction(stream, side, seen, &ends[side])),
-        false => direction(stream, side, seen, &ends[side]),
-    });
+    [0, 1].map(|side| match was_open && is_unseen(stream, side) {
+        true => {
+            let (side, at) = (Some(side_of(side)), Some(stream.opened));
+            End { ended: Ended { how: How::EndStream, side, code: None, at }, is_seen: false }
+        }
+        false => End { ended: seen.end_of(stream, side), is_seen: true },
+    })
+}
+
+/// The request that a stream is, whose directions ended so, without its cause, and without what causes alone are told
+/// from.
+fn uncaused(stream: &mut Stream, seen: &Seen, texts: Option<&Texts>, ends: &[End; 2]) -> Request {
+    let last = if ends[1].time() > ends[0].time() { &ends[1] } else { &ends[0] };
+    let times = ends.iter().filter_map(|end| end.ended.at).map(|at| at.time);
+    let until = times.fold(stream.opened.time, Nanos::max);
     let [method, path, authority] = names(stream.request, texts);
     let fields = stream.answer.fields;
-    let mut request = Request {
+    Request {
         stream: stream.number,
         name: name_of(method.as_deref(), path.as_deref().or(authority.as_deref())),
         method,
@@ -295,21 +362,16 @@ fn told(stream: &mut Stream, seen: &Seen, texts: Option<&Texts>) -> Request {
         grpc_status: stream.answer.grpc_status.or_else(|| fields?.grpc_status),
         promised_on: stream.promised_on,
         opened: stream.opened,
-        ended,
+        ended: last.ended,
         until,
-        sides,
+        sides: [direction(stream, 0, seen, &ends[0]), direction(stream, 1, seen, &ends[1])],
         cause: no_cause(),
         held: 0,
         is_hung: false,
         hung_nanos: 0,
-        is_end_unseen: seen.is_end_unseen(&ended, until),
-        was_open,
-    };
-    let held = Held { seen, stream, request: &request, ends: ends.map(|end| end.how) };
-    let found = held.found();
-    (request.cause, request.held) = (found.cause, found.held);
-    (request.is_hung, request.hung_nanos) = (found.hung.is_some(), found.hung.unwrap_or(0));
-    request
+        is_end_unseen: seen.is_end_unseen(&last.ended, until),
+        was_open: seen.about.was_open(stream.number),
+    }
 }
 
 fn lived<'a>(stream: &'a Stream, known: &LegKnown, cause: Cause) -> Lived<'a> {
@@ -339,7 +401,7 @@ fn is_unseen(stream: &Stream, side: usize) -> bool {
 /// What is told of such a direction: nothing.
 fn unseen(found: Direction) -> Direction {
     let spans = found.spans.map(|_| Vec::new());
-    Direction { nanos: 0, shares: Shares::default(), spans, end: None, waited: 0, ..found }
+    Direction { nanos: 0, shares: Shares::default(), spans, end: None, ..found }
 }
 
 fn names(asked: Option<RequestFields>, texts: Option<&Texts>) -> [Option<Rc<str>>; 3] {
@@ -347,20 +409,24 @@ fn names(asked: Option<RequestFields>, texts: Option<&Texts>) -> [Option<Rc<str>
     [asked.method, asked.path, asked.authority].map(|number| texts?.get(number).cloned())
 }
 
-fn direction(stream: &mut Stream, side: usize, seen: &Seen, ended: &Ended) -> Direction {
+fn direction(stream: &mut Stream, side: usize, seen: &Seen, end: &End) -> Direction {
     let (begin, number) = (stream.opened.time, stream.number);
     let one = &mut stream.sides[side];
-    let end = ended.at.map_or(begin, |at| at.time).max(begin);
-    one.finish(&seen.about.holding(side, number), end, false);
-    Direction {
-        nanos: end - begin,
+    let until = end.ended.at.map_or(begin, |at| at.time).max(begin);
+    one.finish(&seen.about.holding(side, number), until, false);
+    let found = Direction {
+        nanos: until - begin,
         shares: one.life.shares,
         spans: one.life.spans.take(),
         content: one.content,
         first: one.first,
-        end: ended.at,
+        end: end.ended.at,
         stalls: seen.about.stalls.get(side, number).map_or(0, |one| one.0),
-        waited: waited(one, side, seen, end),
+        waited: 0,
+    };
+    match end.is_seen {
+        true => found,
+        false => unseen(found),
     }
 }
 

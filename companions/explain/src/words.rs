@@ -1,9 +1,7 @@
 //! How the answer is worded: durations, counts, codes, reasons.
 
-use std::fmt::Write;
-
-pub use reports::count;
-use reports::grouped;
+pub use reports::{count, put_count};
+use reports::{put_grouped, put_number};
 
 use crate::answer::Nanos;
 
@@ -81,13 +79,17 @@ pub fn put_time(text: &mut String, nanos: Nanos) {
     let (unit, size) = match UNITS.iter().find(|unit| nanos >= unit.1) {
         Some((unit, size)) => (*unit, size.unsigned_abs()),
         None => {
-            let _ = write!(text, "{nanos} ns");
+            if nanos < 0 {
+                text.push('-');
+            }
+            put_number(text, nanos.unsigned_abs());
+            text.push_str(" ns");
             return;
         }
     };
     let nanos = nanos.unsigned_abs();
     if nanos >= 100 * size {
-        text.push_str(&grouped((nanos + size / 2) / size));
+        put_grouped(text, (nanos + size / 2) / size);
     } else {
         let power = match nanos < 10 * size {
             true if unit == "s" => 1000,
@@ -111,13 +113,6 @@ fn put_fraction(text: &mut String, parts: u64, power: u64) {
         put_number(text, rest / place);
         (rest, place) = (rest % place, place / 10);
     }
-}
-
-fn put_number(text: &mut String, number: u64) {
-    if number >= 10 {
-        put_number(text, number / 10);
-    }
-    text.push(char::from(b'0' + (number % 10) as u8));
 }
 
 /// Why connections were not audited: these, as "3 connections".

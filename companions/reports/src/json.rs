@@ -3,12 +3,13 @@
 use std::io::{self, Write};
 use std::ops::Range;
 
+use crate::digits::put_number_and_comma;
+
 /// A buffer of so many bytes goes to its output, which need not copy so many into its own buffer.
 const FULL: usize = 1 << 17;
-/// Names that are shorter, with what stands around them, are put into the buffer at once.
-const SHORT: usize = 32;
-/// So many bytes of a text are looked at side by side.
-const STRIDE: usize = 32;
+/// Each byte of a word has this bit, or is 1.
+const HIGHEST: u64 = 0x8080_8080_8080_8080;
+const ONES: u64 = 0x0101_0101_0101_0101;
 
 /// So many values are kept that may come again.
 const MOST_KEPT: usize = 4;
@@ -19,16 +20,27 @@ pub struct Json<'a> {
     to: &'a mut dyn Write,
     /// The last values that may come again, by what tells them from others, and where they stand in the buffer without
     /// their commas; and which of them goes next.
-    kept: [Option<(Key, Range<usize>)>; MOST_KEPT],
+    keys: [Key; MOST_KEPT],
+    kept: [Range<usize>; MOST_KEPT],
     oldest: usize,
+    /// Room for texts that are made as they are written.
+    room: String,
 }
 
-/// What tells a value that may come again from others.
+/// What tells a value that may come again from others; and what none has.
 pub type Key = [u64; 4];
+const NO_KEY: Key = [u64::MAX; 4];
 
 impl<'a> Json<'a> {
     pub fn new(to: &'a mut dyn Write) -> Json<'a> {
-        Json { buffer: Vec::with_capacity(FULL + FULL / 2), to, kept: Default::default(), oldest: 0 }
+        Json {
+            buffer: Vec::with_capacity(FULL + FULL / 2),
+            to,
+            keys: [NO_KEY; MOST_KEPT],
+            kept: Default::default(),
+            oldest: 0,
+            room: String::new(),
+        }
     }
 
     /// Gives on what was written, where that is much.
@@ -46,7 +58,7 @@ impl<'a> Json<'a> {
         self.takes_comma();
         self.to.write_all(&self.buffer)?;
         self.buffer.clear();
-        self.kept = Default::default();
+        self.keys = [NO_KEY; MOST_KEPT];
         Ok(())
     }
 
@@ -58,16 +70,18 @@ impl<'a> Json<'a> {
     }
 
     /// Writes a value that often is that of one just before, which then is copied.
+    #[inline]
     pub fn often(&mut self, key: Key, write: impl FnOnce(&mut Json<'a>)) {
-        match self.kept.iter().flatten().find(|one| one.0 == key) {
-            Some((_, place)) => {
-                self.buffer.extend_from_within(place.clone());
+        match self.keys.iter().position(|one| *one == key) {
+            Some(found) => {
+                self.buffer.extend_from_within(self.kept[found].clone());
                 self.buffer.push(b',');
             }
             None => {
                 let begin = self.buffer.len();
                 write(self);
-                self.kept[self.oldest] = Some((key, begin..self.buffer.len() - 1));
+                self.keys[self.oldest] = key;
+                self.kept[self.oldest] = begin..self.buffer.len() - 1;
                 self.oldest = (self.oldest + 1) % MOST_KEPT;
             }
         }
@@ -105,19 +119,17 @@ impl<'a> Json<'a> {
         self.buffer.push(b',');
     }
 
-    /// The name of a member, which needs no escapes. Mostly the compiler knows it, and makes a number or two of it and
-    /// of what stands around it.
-    #[inline(always)]
+    /// The name of a member, which needs no escapes.
+    #[inline]
     pub fn name(&mut self, name: &'static str) -> &mut Json<'a> {
-        let (octets, end) = (name.as_bytes(), name.len() + 1);
-        if end + 2 > SHORT {
-            self.put(octets, b"\":");
-            return self;
-        }
-        let mut all = [b'"'; SHORT];
-        all[1..end].copy_from_slice(octets);
-        all[end + 1] = b':';
-        self.buffer.extend_from_slice(&all[..end + 2]);
+        self.put(name.as_bytes(), b"\":");
+        self
+    }
+
+    /// What the compiler knows: [`quoted!`].
+    #[inline(always)]
+    pub fn constant<const LENGTH: usize>(&mut self, octets: &'static [u8; LENGTH]) -> &mut Json<'a> {
+        self.buffer.extend_from_slice(octets);
         self
     }
 
@@ -136,21 +148,34 @@ impl<'a> Json<'a> {
 
     pub fn text(&mut self, text: &str) {
         self.buffer.push(b'"');
-        escape(text, &mut self.buffer);
+        match are_plain(text.as_bytes()) {
+            true => self.buffer.extend_from_slice(text.as_bytes()),
+            false => escape(text, &mut self.buffer),
+        }
         self.buffer.extend_from_slice(b"\",");
+    }
+
+    /// A text that is made here, in room that is kept; nothing where it is empty.
+    pub fn made_text(&mut self, make: impl FnOnce(&mut String)) {
+        let mut text = std::mem::take(&mut self.room);
+        make(&mut text);
+        self.some_text(Some(&text));
+        text.clear();
+        self.room = text;
     }
 
     /// Most numbers are small.
     #[inline]
-    pub fn number(&mut self, number: impl itoa::Integer + TryInto<u8> + Copy) {
+    pub fn number(&mut self, number: impl itoa::Integer + TryInto<u64> + Copy) {
         match number.try_into() {
-            Ok(digit @ 0..=9) => self.buffer.extend_from_slice(&[b'0' + digit, b',']),
-            _ => self.digits(number),
+            Ok(digit @ 0..=9) => self.buffer.extend_from_slice(&[b'0' + digit as u8, b',']),
+            Ok(number) => put_number_and_comma(&mut self.buffer, number),
+            Err(_) => self.negative(number),
         }
     }
 
-    #[inline(never)]
-    fn digits(&mut self, number: impl itoa::Integer) {
+    #[cold]
+    fn negative(&mut self, number: impl itoa::Integer) {
         self.buffer.extend_from_slice(itoa::Buffer::new().format(number).as_bytes());
         self.buffer.push(b',');
     }
@@ -162,6 +187,7 @@ impl<'a> Json<'a> {
         self.buffer.extend_from_slice(format!("{sign}{whole}.{rest:03},").as_bytes());
     }
 
+    #[inline]
     pub fn truth(&mut self, is_true: bool) {
         let word: &[u8] = if is_true { b"true," } else { b"false," };
         self.buffer.extend_from_slice(word);
@@ -172,6 +198,7 @@ impl<'a> Json<'a> {
         self.buffer.extend_from_slice(b"null,");
     }
 
+    #[inline]
     pub fn some<T>(&mut self, value: Option<T>, write: impl FnOnce(&mut Json<'a>, T)) {
         match value {
             Some(value) => write(self, value),
@@ -184,13 +211,75 @@ impl<'a> Json<'a> {
         self.some(text.filter(|text| !text.is_empty()), Json::text);
     }
 
-    pub fn some_number(&mut self, number: Option<impl itoa::Integer + TryInto<u8> + Copy>) {
+    #[inline]
+    pub fn some_number(&mut self, number: Option<impl itoa::Integer + TryInto<u64> + Copy>) {
         self.some(number, |json, number| json.number(number));
     }
 
+    #[inline]
     pub fn some_word(&mut self, word: Option<&'static str>) {
         self.some(word, Json::word);
     }
+}
+
+/// The name of a member that is written often: the compiler puts what stands around it there, and makes a number or two
+/// of all that.
+#[macro_export]
+macro_rules! name {
+    ($json:expr, $name:expr) => {
+        $json.constant($crate::quoted!($name, ""))
+    };
+}
+
+/// A member whose number mostly is 0, which then is put there with its name.
+#[macro_export]
+macro_rules! mostly_0 {
+    ($json:expr, $name:expr, $number:expr) => {
+        match $number {
+            0 => {
+                $json.constant($crate::quoted!($name, "0,"));
+            }
+            number => $crate::name!($json, $name).number(number),
+        }
+    };
+}
+
+/// A member that mostly is null, which then is put there with its name.
+#[macro_export]
+macro_rules! mostly_null {
+    ($json:expr, $name:expr, $value:expr, $write:expr) => {
+        match $value {
+            None => {
+                $json.constant($crate::quoted!($name, "null,"));
+            }
+            Some(value) => $write($crate::name!($json, $name), value),
+        }
+    };
+}
+
+/// A name as it stands before its value, and what of that the compiler knows.
+#[macro_export]
+macro_rules! quoted {
+    ($name:expr, $value:expr) => {{
+        const NAME: &str = $name;
+        const QUOTED: &[u8; NAME.len() + $value.len() + 3] = &$crate::json::quoted(NAME, $value);
+        QUOTED
+    }};
+}
+
+/// What [`quoted!`] makes.
+pub const fn quoted<const LENGTH: usize>(name: &str, value: &str) -> [u8; LENGTH] {
+    let (mut all, name, value, mut place) = ([b'"'; LENGTH], name.as_bytes(), value.as_bytes(), 0);
+    while place < LENGTH {
+        match place {
+            _ if place > name.len() + 2 => all[place] = value[place - name.len() - 3],
+            _ if place == name.len() + 2 => all[place] = b':',
+            _ if place == name.len() + 1 || place == 0 => {}
+            _ => all[place] = name[place - 1],
+        }
+        place += 1;
+    }
+    all
 }
 
 /// Whether a byte needs no escape.
@@ -198,11 +287,26 @@ fn is_plain(octet: u8) -> bool {
     matches!(octet, b' '..=b'~') && octet != b'"' && octet != b'\\'
 }
 
+/// Whether no byte needs an escape; of eight at a time, of the last ones some twice.
+fn are_plain(octets: &[u8]) -> bool {
+    let eight = |octets: &[u8]| octets.try_into().map_or(0, u64::from_le_bytes);
+    let last = match octets.len().checked_sub(8) {
+        Some(begin) => eight(&octets[begin..]),
+        None => return octets.iter().all(|octet| is_plain(*octet)),
+    };
+    octets.chunks_exact(8).fold(special(last), |found, some| found | special(eight(some))) == 0
+}
+
+/// 0 where each byte of a word is plain.
+fn special(word: u64) -> u64 {
+    let has = |octet: u8| (word ^ ONES.wrapping_mul(octet.into())).wrapping_sub(ONES);
+    let below = word.wrapping_sub(ONES.wrapping_mul(b' '.into()));
+    let above = word.wrapping_add(ONES);
+    (below | above | has(b'"') | has(b'\\') | word) & HIGHEST
+}
+
 /// The text of a string: ASCII, with escapes for all else (RFC 8259, 7).
 fn escape(text: &str, to: &mut Vec<u8>) {
-    if text.as_bytes().chunks(STRIDE).all(|some| some.iter().fold(true, |are, one| are & is_plain(*one))) {
-        return to.extend_from_slice(text.as_bytes());
-    }
     let mut plain = 0;
     for (place, letter) in text.char_indices() {
         if u8::try_from(letter).map_or(false, is_plain) {
@@ -228,7 +332,21 @@ fn escape(text: &str, to: &mut Vec<u8>) {
 
 #[cfg(test)]
 mod tests {
-    use super::{Json, FULL};
+    use super::{are_plain, is_plain, Json, FULL};
+
+    #[test]
+    fn one_byte_that_needs_an_escape() {
+        for octet in 0..=u8::MAX {
+            for (other, length) in [b' ', b'!', b'#', b'[', b']', b'~'].into_iter().zip([1, 7, 8, 9, 16, 23]) {
+                for place in 0..length {
+                    let mut octets = vec![other; length];
+                    octets[place] = octet;
+                    assert_eq!(are_plain(&octets), is_plain(octet), "{octets:?}");
+                }
+            }
+        }
+        assert!(are_plain(&[]));
+    }
 
     #[test]
     fn what_was_given_on_goes_on() -> std::io::Result<()> {
@@ -282,15 +400,20 @@ mod tests {
             json.name("e").list([0_u8; 0], |json, number| json.number(number));
             json.name("f").truth(true);
             json.name("g").some_number(None::<u32>);
-            json.name("h").word("x");
+            name!(json, "h").word("x");
             json.name("i").list([1_234_567_i64, -1, -2_005, 0], |json, nanos| json.thousandths(nanos));
+            for number in [0_i64, -1] {
+                mostly_0!(json, "jk", number);
+                mostly_null!(json, "lmn", Some(number).filter(|number| *number != 0), Json::number);
+            }
         });
         json.line();
         json.number(7);
         let finished = json.finish();
         assert!(finished.is_ok());
         let wanted = r#"{"a":"\"\\\n\r\t\b\f\u0001\u007f\u00b5\u6f22\ud83d\ude00~","b":[1,-2],"c":{"d":null},"e":[],"#;
-        let wanted = format!("{wanted}{}\n7", r#""f":true,"g":null,"h":"x","i":[1234.567,-0.001,-2.005,0.000]}"#);
+        let wanted = format!("{wanted}{}\n7", r#""f":true,"g":null,"h":"x","i":[1234.567,-0.001,-2.005,0.000],"#);
+        let wanted = wanted.replace("\n7", "\"jk\":0,\"lmn\":null,\"jk\":-1,\"lmn\":-1}\n7");
         assert_eq!(String::from_utf8_lossy(&written), wanted);
     }
 }

@@ -5,6 +5,7 @@
 
 mod blame;
 mod cursor;
+mod digits;
 pub mod json;
 mod kinds;
 mod lines;
@@ -19,6 +20,6 @@ pub use blame::{section_of, who_is_to_blame};
 pub use kinds::{is_fault, Blame, Kind, Side};
 pub use lines::{finding_in, Capture, Finding, FindingLine, Flow, Form, Line, Opening, Stall};
 pub use notes::{Note, Pairing};
-pub use numbers::{count, duration, grouped};
+pub use numbers::{count, duration, grouped, put_count, put_grouped, put_number};
 pub use reading::{read_line, ReadError, Reader, LONGEST_LINE};
 pub use sentences::{sentence_of, what_happened};

@@ -1,24 +1,61 @@
 //! Numbers as sentences have them.
 
+/// So many bytes most counts take.
+const USUAL: usize = 32;
+
 /// A number with a comma before each three digits.
 pub fn grouped(number: impl Into<i128>) -> String {
-    let number = number.into();
-    let digits = number.unsigned_abs().to_string();
-    let mut text = String::from(if number < 0 { "-" } else { "" });
-    for (place, digit) in digits.chars().enumerate() {
-        if place > 0 && (digits.len() - place) % 3 == 0 {
-            text.push(',');
-        }
-        text.push(digit);
-    }
+    let mut text = String::with_capacity(USUAL);
+    put_grouped(&mut text, number);
     text
+}
+
+/// Puts such a number behind a text.
+pub fn put_grouped(text: &mut String, number: impl Into<i128>) {
+    let number = number.into();
+    if number < 0 {
+        text.push('-');
+    }
+    put_groups(text, number.unsigned_abs());
+}
+
+fn put_groups(text: &mut String, number: u128) {
+    let (before, last) = match u64::try_from(number) {
+        Ok(number @ 0..=999) => return put_number(text, number),
+        Ok(number) => (u128::from(number / 1_000), number % 1_000),
+        Err(_) => (number / 1_000, (number % 1_000) as u64),
+    };
+    put_groups(text, before);
+    text.push(',');
+    for place in [100, 10, 1] {
+        put_number(text, last / place % 10);
+    }
+}
+
+/// Puts a number behind a text, digit by digit: most have few.
+pub fn put_number(text: &mut String, number: u64) {
+    if number >= 10 {
+        put_number(text, number / 10);
+    }
+    text.push(char::from(b'0' + (number % 10) as u8));
 }
 
 /// So many of something, as "1 packet" and "2 packets".
 pub fn count(number: impl Into<i128>, one: &str) -> String {
+    let mut text = String::with_capacity(USUAL);
+    put_count(&mut text, number, one);
+    text
+}
+
+/// Puts so many of something behind a text.
+pub fn put_count(text: &mut String, number: impl Into<i128>, one: &str) {
     let number = number.into();
-    let many = if number == 1 { "" } else { "s" };
-    format!("{} {one}{many}", grouped(number))
+    put_grouped(text, number);
+    text.push(' ');
+    text.push_str(one);
+    if number != 1 {
+        text.push('s');
+    }
 }
 
 /// A time in a unit that fits, exactly.
@@ -70,5 +107,6 @@ mod tests {
         for (number, text) in cases {
             assert_eq!(grouped(number), text);
         }
+        assert_eq!(grouped(i128::from(u64::MAX) * 1_000 + 7), "18,446,744,073,709,551,615,007");
     }
 }

@@ -8,7 +8,7 @@ use explain::answer::{
     Answer, At, ConnectionSaid, Direction, Ended, FaultSaid, Files, Holder, Nanos, Request, RoundTrip, Share, Shares,
     Signal, Span, StallSaid, Sure,
 };
-use reports::{section_of, sentence_of, Side};
+use reports::{mostly_0, mostly_null, name, section_of, sentence_of, Side};
 
 use crate::asked::Shown;
 use crate::charts;
@@ -16,7 +16,7 @@ use crate::gates::is_unanswered;
 use crate::joined;
 use crate::json::Json;
 use crate::legs;
-use crate::life::life_of;
+use crate::life::put_life;
 use crate::phrases::{how_name, Phrases};
 use crate::summing::{Summary, SummedConnection, Whole};
 use crate::wording::{code_name, grpc_name, SIDES};
@@ -68,18 +68,19 @@ pub fn write(whole: &Whole<'_>, shown: Option<&Shown>, to: &mut dyn Write) -> io
 pub fn write_lines(whole: &Whole<'_>, to: &mut dyn Write) -> io::Result<()> {
     let mut json = Json::new(to);
     for one in whole.audited() {
-        for (place, found) in one.said.requests.iter().enumerate() {
+        let requests = &one.said.requests;
+        requests.each_at(0..requests.len(), &one.uncaused, |at, found| {
             json.object(|json| {
                 json.name("h2audit_why").number(VERSION);
                 json.name("connection").number(one.said.number);
                 json.name("client_address").text(&one.said.client);
                 json.name("server_address").text(&one.said.server);
-                request(json, &found, &one.phrases, &whole.answer.files);
-                legs::request(json.name("legs"), &found, (one.place, place), whole.answer);
+                request(json, found, &one.phrases, &whole.answer.files);
+                legs::request(json.name("legs"), found, (one.place, at), whole.answer);
             });
             json.line();
-            json.give()?;
-        }
+            json.give()
+        })?;
     }
     json.finish()
 }
@@ -111,10 +112,10 @@ pub fn place(json: &mut Json<'_>, at: Option<At>, files: &Files) {
         let (file, packet) = files.place(at.packet);
         json.often([packet, file as u64, at.time as u64, at.frame.into()], |json| {
             json.object(|json| {
-                json.name("packet").number(packet);
-                json.name("file").number(file);
-                json.name("time").number(at.time);
-                json.name("frame").some_number(Some(at.frame).filter(|frame| *frame > 0));
+                name!(json, "packet").number(packet);
+                name!(json, "file").number(file);
+                name!(json, "time").number(at.time);
+                name!(json, "frame").some_number(Some(at.frame).filter(|frame| *frame > 0));
             });
         });
     });
@@ -144,13 +145,14 @@ fn connection(
     json.close(b']');
     json.name("requests").open(b'[');
     let all = 0..if shown.is_some() { 0 } else { said.requests.len() };
-    for (at, found) in said.requests.at(all.chain(shown.into_iter().flatten().copied())) {
+    let places = all.chain(shown.into_iter().flatten().copied());
+    said.requests.each_at(places, &one.uncaused, |at, found| {
         json.object(|json| {
-            request(json, &found, &one.phrases, files);
-            legs::request(json.name("legs"), &found, (one.place, at), answer);
+            request(json, found, &one.phrases, files);
+            legs::request(name!(json, "legs"), found, (one.place, at), answer);
         });
-        json.give()?;
-    }
+        json.give()
+    })?;
     json.close(b']');
     json.name("signals").list(&said.signals, |json, found| signal(json, found, files));
     ended(json.name("ended"), &said.ended, files);
@@ -258,11 +260,11 @@ fn stall(json: &mut Json<'_>, said: &StallSaid, of: &ConnectionSaid, files: &Fil
 
 fn ended(json: &mut Json<'_>, one: &Ended, files: &Files) {
     json.object(|json| {
-        json.name("how").word(how_name(one.how));
-        json.name("side").some_word(one.side.map(Side::name));
-        json.name("code").some_number(one.code);
-        json.name("code_name").some(one.code, |json, code| json.text(&code_name(code)));
-        place(json.name("at"), one.at, files);
+        name!(json, "how").word(how_name(one.how));
+        name!(json, "side").some_word(one.side.map(Side::name));
+        mostly_null!(json, "code", one.code, Json::number);
+        mostly_null!(json, "code_name", one.code, |json: &mut Json<'_>, code| json.text(&code_name(code)));
+        place(name!(json, "at"), one.at, files);
     });
 }
 
@@ -281,39 +283,39 @@ fn signal(json: &mut Json<'_>, one: &Signal, files: &Files) {
 
 /// The members of a request.
 fn request(json: &mut Json<'_>, one: &Request, phrases: &Phrases<'_>, files: &Files) {
-    json.name("stream").number(one.stream);
-    json.name("name").some(one.name.as_deref(), Json::text);
-    json.name("method").some(one.method.as_deref(), Json::text);
-    json.name("path").some(one.path.as_deref(), Json::text);
-    json.name("authority").some(one.authority.as_deref(), Json::text);
-    json.name("status").some_number(one.status);
-    json.name("grpc_status").some_number(one.grpc_status);
-    json.name("grpc_status_name").some(one.grpc_status, |json, code| json.text(&grpc_name(code)));
-    json.name("promised_on").some_number(Some(one.promised_on).filter(|stream| *stream > 0));
-    place(json.name("opened"), Some(one.opened), files);
-    ended(json.name("ended"), &one.ended, files);
-    json.name("nanos").number(one.nanos());
-    direction(json.name("client"), &one.sides[0], one.opened.time, files);
-    direction(json.name("server"), &one.sides[1], one.opened.time, files);
-    json.name("hung").truth(one.is_hung);
-    json.name("hung_nanos").some_number(Some(one.hung_nanos).filter(|_| one.is_hung));
-    json.name("unanswered").truth(is_unanswered(one));
-    json.name("end_unseen").truth(one.is_end_unseen);
-    json.name("opened_before").truth(one.was_open);
-    cause(json.name("cause"), one, phrases, files);
-    json.name("needed_window").some_number(one.cause.needed);
-    json.name("life").some(life_of(one).as_deref(), |json, life| json.text(life));
+    name!(json, "stream").number(one.stream);
+    name!(json, "name").some(one.name.as_deref(), Json::text);
+    name!(json, "method").some(one.method.as_deref(), Json::text);
+    name!(json, "path").some(one.path.as_deref(), Json::text);
+    name!(json, "authority").some(one.authority.as_deref(), Json::text);
+    name!(json, "status").some_number(one.status);
+    mostly_null!(json, "grpc_status", one.grpc_status, Json::number);
+    mostly_null!(json, "grpc_status_name", one.grpc_status, |json: &mut Json<'_>, code| json.text(&grpc_name(code)));
+    mostly_null!(json, "promised_on", Some(one.promised_on).filter(|stream| *stream > 0), Json::number);
+    place(name!(json, "opened"), Some(one.opened), files);
+    ended(name!(json, "ended"), &one.ended, files);
+    name!(json, "nanos").number(one.nanos());
+    direction(name!(json, "client"), &one.sides[0], one.opened.time, files);
+    direction(name!(json, "server"), &one.sides[1], one.opened.time, files);
+    name!(json, "hung").truth(one.is_hung);
+    mostly_null!(json, "hung_nanos", Some(one.hung_nanos).filter(|_| one.is_hung), Json::number);
+    name!(json, "unanswered").truth(is_unanswered(one));
+    name!(json, "end_unseen").truth(one.is_end_unseen);
+    name!(json, "opened_before").truth(one.was_open);
+    cause(name!(json, "cause"), one, phrases, files);
+    mostly_null!(json, "needed_window", one.cause.needed, Json::number);
+    name!(json, "life").made_text(|text| put_life(text, one));
 }
 
 fn direction(json: &mut Json<'_>, one: &Direction, opened: Nanos, files: &Files) {
     json.object(|json| {
-        json.name("nanos").number(one.nanos);
-        json.name("content").number(one.content);
-        json.name("shares").object(|json| shares(json, &one.shares));
-        json.name("stalls").number(one.stalls);
-        place(json.name("first"), one.first, files);
-        place(json.name("end"), one.end, files);
-        json.name("spans")
+        mostly_0!(json, "nanos", one.nanos);
+        mostly_0!(json, "content", one.content);
+        name!(json, "shares").object(|json| shares(json, &one.shares));
+        mostly_0!(json, "stalls", one.stalls);
+        place(name!(json, "first"), one.first, files);
+        place(name!(json, "end"), one.end, files);
+        name!(json, "spans")
             .some(one.spans.as_ref(), |json, spans| json.list(spans, |json, one| span(json, one, opened)));
     });
 }
@@ -321,14 +323,14 @@ fn direction(json: &mut Json<'_>, one: &Direction, opened: Nanos, files: &Files)
 /// One after the other, so that each name is known to the compiler.
 fn shares(json: &mut Json<'_>, all: &Shares) {
     let [waiting, sending, stream_stall, connection_stall, tcp, others, idle, unseen] = *all;
-    json.name(Share::Waiting.name()).number(waiting);
-    json.name(Share::Sending.name()).number(sending);
-    json.name(Share::StreamStall.name()).number(stream_stall);
-    json.name(Share::ConnectionStall.name()).number(connection_stall);
-    json.name(Share::Tcp.name()).number(tcp);
-    json.name(Share::Others.name()).number(others);
-    json.name(Share::Idle.name()).number(idle);
-    json.name(Share::Unseen.name()).number(unseen);
+    mostly_0!(json, Share::Waiting.name(), waiting);
+    mostly_0!(json, Share::Sending.name(), sending);
+    mostly_0!(json, Share::StreamStall.name(), stream_stall);
+    mostly_0!(json, Share::ConnectionStall.name(), connection_stall);
+    mostly_0!(json, Share::Tcp.name(), tcp);
+    mostly_0!(json, Share::Others.name(), others);
+    mostly_0!(json, Share::Idle.name(), idle);
+    mostly_0!(json, Share::Unseen.name(), unseen);
 }
 
 fn span(json: &mut Json<'_>, one: &Span, opened: Nanos) {
@@ -343,15 +345,15 @@ fn span(json: &mut Json<'_>, one: &Span, opened: Nanos) {
 pub fn cause(json: &mut Json<'_>, of: &Request, phrases: &Phrases<'_>, files: &Files) {
     let one = &of.cause;
     json.object(|json| {
-        json.name("kind").word(kind_name(one.kind));
-        json.name("why").some_word(why_name(one.why));
-        json.name("side").some_word(cause_side(one));
-        json.name("ask").some_word(one.ask.map(Side::name));
-        json.name("nanos").number(one.nanos);
-        place(json.name("first"), one.first, files);
-        place(json.name("last"), one.last, files);
-        json.name("text").text(&phrases.of(of));
-        json.name("proved").truth(one.is_proved);
-        json.name("grade").some_word(one.sure.map(Sure::name));
+        name!(json, "kind").word(kind_name(one.kind));
+        mostly_null!(json, "why", why_name(one.why), Json::word);
+        mostly_null!(json, "side", cause_side(one), Json::word);
+        mostly_null!(json, "ask", one.ask.map(Side::name), Json::word);
+        mostly_0!(json, "nanos", one.nanos);
+        mostly_null!(json, "first", one.first, |json, at| place(json, Some(at), files));
+        mostly_null!(json, "last", one.last, |json, at| place(json, Some(at), files));
+        name!(json, "text").made_text(|text| phrases.put(text, of));
+        name!(json, "proved").truth(one.is_proved);
+        mostly_null!(json, "grade", one.sure.map(Sure::name), Json::word);
     });
 }

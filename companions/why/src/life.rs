@@ -1,5 +1,7 @@
 //! The whole life of a request in one line: what took a twentieth of it, by sides (docs/WHY.md, 4).
 
+use std::cmp::Reverse;
+
 use explain::answer::{CauseKind, How, Nanos, Request, Share};
 use reports::Side;
 
@@ -8,10 +10,10 @@ use crate::wording::{put_percent, put_time, SIDES};
 /// Parts below a twentieth of a life are not told.
 const LEAST_PART: i128 = 20;
 const MOST_PARTS: usize = 14;
-/// So many bytes most lives take.
-const USUAL: usize = 128;
+const NO_PART: Part = Part { nanos: 0, side: None, what: What::Unknown };
 
 /// A part of a life.
+#[derive(Clone, Copy)]
 struct Part {
     nanos: Nanos,
     /// Whose it is, and what of it, behind "the server" or "its".
@@ -32,31 +34,41 @@ enum What {
 
 /// The parts of a life, the longest first, where one is named that held it back and several took a twentieth each.
 pub fn life_of(request: &Request) -> Option<String> {
+    let mut text = String::new();
+    put_life(&mut text, request);
+    Some(text).filter(|text| !text.is_empty())
+}
+
+/// Puts the same behind a text, or nothing.
+pub fn put_life(text: &mut String, request: &Request) {
     let life = request.nanos();
     if matches!(request.cause.kind, CauseKind::None | CauseKind::Unseen) {
-        return None;
+        return;
     }
-    let mut parts: Vec<Part> = Vec::with_capacity(MOST_PARTS);
     let counts = |one: &Part| one.nanos > 0 && i128::from(one.nanos) * LEAST_PART >= i128::from(life);
-    SIDES.iter().for_each(|side| parts.extend(parts_of(request, *side).into_iter().filter(counts)));
-    if parts.len() < 2 {
-        return None;
+    let ([client, server], mut parts, mut count) =
+        (SIDES.map(|side| parts_of(request, side)), [NO_PART; MOST_PARTS], 0);
+    for one in client.into_iter().chain(server).filter(counts) {
+        parts[count] = one;
+        count += 1;
     }
-    parts.sort_by_key(|one| std::cmp::Reverse(one.nanos));
-    let mut text = String::with_capacity(USUAL);
-    put_time(&mut text, life);
+    let parts = &mut parts[..count];
+    if parts.len() < 2 {
+        return;
+    }
+    parts.sort_by_key(|one| Reverse(one.nanos));
+    put_time(text, life);
     let (mut between, mut before) = (": ", None);
-    for one in &parts {
+    for one in parts {
         text.push_str(between);
-        put_words(&mut text, one, before);
+        put_words(text, one, before);
         text.push(' ');
-        put_time(&mut text, one.nanos);
+        put_time(text, one.nanos);
         text.push_str(" (");
-        put_percent(&mut text, one.nanos, life);
+        put_percent(text, one.nanos, life);
         text.push(')');
         (between, before) = (", ", one.side);
     }
-    Some(text)
 }
 
 fn parts_of(request: &Request, side: Side) -> [Part; 7] {

@@ -9,10 +9,12 @@ use explain::answer::{
 use reports::{grouped, Side};
 
 use crate::joined::mark;
-use crate::wording::{count, percent, rate_of, streams_named, time_of};
+use crate::wording::{count, percent, put_count, put_percent, put_rate, put_time, rate_of, streams_named, time_of};
 
 /// A second duration is told where it is longer than the first one by so much.
 const MORE: Nanos = 1_000_000;
+/// So many bytes most phrases take.
+const USUAL: usize = 128;
 
 /// The phrases of one connection's requests. Those that waited for the connection's window name each other.
 pub struct Phrases<'a> {
@@ -49,34 +51,58 @@ impl<'a> Phrases<'a> {
 
     /// What held back a request.
     pub fn of(&self, request: &Request) -> String {
+        let mut text = String::with_capacity(USUAL);
+        self.put(&mut text, request);
+        text
+    }
+
+    /// Puts the same behind a text.
+    pub fn put(&self, text: &mut String, request: &Request) {
         let cause = &request.cause;
-        let lasts = time_of(cause.nanos);
         match cause.kind {
-            CauseKind::StreamWindow | CauseKind::ConnectionWindow => self.of_window(request),
+            CauseKind::StreamWindow | CauseKind::ConnectionWindow => text.push_str(&self.of_window(request)),
             CauseKind::Tcp => {
-                let share = percent(cause.nanos, request.nanos());
-                format!("held by TCP for {lasts} ({share}): {}", tcp_words(cause))
+                text.push_str("held by TCP for ");
+                put_time(text, cause.nanos);
+                text.push_str(" (");
+                put_percent(text, cause.nanos, request.nanos());
+                text.push_str("): ");
+                text.push_str(&tcp_words(cause));
             }
-            CauseKind::Application => self.not_stalled(request) + &of_application(request),
-            CauseKind::Path => self.not_stalled(request) + &of_path(request),
+            CauseKind::Application => {
+                self.put_not_stalled(text, request);
+                put_application(text, request);
+            }
+            CauseKind::Path => {
+                self.put_not_stalled(text, request);
+                put_path(text, request);
+            }
             CauseKind::Unseen => {
-                format!("not known for {lasts}: behind a gap, or past the frame at which the audit stopped")
+                text.push_str("not known for ");
+                put_time(text, cause.nanos);
+                text.push_str(": behind a gap, or past the frame at which the audit stopped");
             }
-            CauseKind::None => self.hardly(request),
+            CauseKind::None => self.put_hardly(text, request),
         }
     }
 
     /// No cause is named: not stalled at all, or for less than counts.
-    fn hardly(&self, request: &Request) -> String {
+    fn put_hardly(&self, text: &mut String, request: &Request) {
         let nanos = request.stalled_by_both();
         if nanos == 0 {
-            return self.unstalled(request).to_string();
+            text.push_str(self.unstalled(request));
+            return;
         }
-        let often = match self.waits.times(request) {
-            0 => String::new(),
-            times => format!(", {}", count(times, "time")),
-        };
-        format!("stalled {} in all ({}){often}", time_of(nanos), percent(nanos, request.nanos()))
+        text.push_str("stalled ");
+        put_time(text, nanos);
+        text.push_str(" in all (");
+        put_percent(text, nanos, request.nanos());
+        text.push(')');
+        let times = self.waits.times(request);
+        if times > 0 {
+            text.push_str(", ");
+            put_count(text, times, "time");
+        }
     }
 
     /// What is said of a request of which no stall is known.
@@ -89,10 +115,10 @@ impl<'a> Phrases<'a> {
     }
 
     /// What stands before another cause where no window was stalled.
-    fn not_stalled(&self, request: &Request) -> String {
-        match request.stalled_by_both() {
-            0 => format!("{}: ", self.unstalled(request)),
-            _ => String::new(),
+    fn put_not_stalled(&self, text: &mut String, request: &Request) {
+        if request.stalled_by_both() == 0 {
+            text.push_str(self.unstalled(request));
+            text.push_str(": ");
         }
     }
 
@@ -299,28 +325,40 @@ fn tcp_words(cause: &Cause) -> String {
 }
 
 /// A side that sent nothing, and the credit that it had.
-fn of_application(request: &Request) -> String {
+fn put_application(text: &mut String, request: &Request) {
     let cause = &request.cause;
-    let whole = if cause.is_silent { "" } else { " on this stream" };
-    let said = format!("the {} sent nothing{whole} for {}", cause.side, time_of(cause.nanos));
+    text.push_str("the ");
+    text.push_str(cause.side.name());
+    text.push_str(" sent nothing");
+    text.push_str(if cause.is_silent { "" } else { " on this stream" });
+    text.push_str(" for ");
+    put_time(text, cause.nanos);
     match cause.credit {
-        Some(credit) if credit > 0 => format!("{said} with {} of credit", count(credit, "byte")),
+        Some(credit) if credit > 0 => {
+            text.push_str(" with ");
+            put_count(text, credit, "byte");
+            text.push_str(" of credit");
+        }
         // What goes before content needs no credit.
-        Some(_) if cause.why == CauseWhy::Before => format!("{said}, no headers either"),
-        _ if cause.side == Side::Client && request.ended.how != How::EndStream => format!("{said}, and did not end it"),
-        _ => said,
+        Some(_) if cause.why == CauseWhy::Before => text.push_str(", no headers either"),
+        _ if cause.side == Side::Client && request.ended.how != How::EndStream => text.push_str(", and did not end it"),
+        _ => {}
     }
 }
 
 /// A side that sent all the time, how much, and on how many streams.
-fn of_path(request: &Request) -> String {
+fn put_path(text: &mut String, request: &Request) {
     let cause = &request.cause;
-    let (lasts, rate) = (time_of(cause.nanos), rate_of(cause.path_rate()));
-    let shared = match cause.streams {
-        0 | 1 => String::new(),
-        some => format!(", shared by {} streams", grouped(u64::from(some))),
-    };
-    format!("the {} sent all the time: {lasts} at {rate}{shared}", cause.side)
+    text.push_str("the ");
+    text.push_str(cause.side.name());
+    text.push_str(" sent all the time: ");
+    put_time(text, cause.nanos);
+    text.push_str(" at ");
+    put_rate(text, cause.path_rate());
+    if cause.streams > 1 {
+        text.push_str(", shared by ");
+        put_count(text, cause.streams, "stream");
+    }
 }
 
 pub fn how_name(how: How) -> &'static str {

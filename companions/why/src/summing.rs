@@ -52,6 +52,8 @@ pub struct SummedConnection<'a> {
     pub phrases: Phrases<'a>,
     /// The first of its requests by rank.
     pub worst: Vec<Rank>,
+    /// Of each of its requests, in their order, whether nothing is named that held it back.
+    pub uncaused: Vec<bool>,
 }
 
 /// What puts requests first: that they hung, and for how long they were held back; then by stream and place.
@@ -108,19 +110,21 @@ impl<'a> SummedConnection<'a> {
     fn new(at: usize, answer: &'a Answer, room: &mut Room) -> SummedConnection<'a> {
         let said = &answer.connections[at];
         let (mut tally, mut phrases) = (Tally::default(), Phrases::new(said, &answer.files));
-        let mut worst = BinaryHeap::with_capacity(said.requests.len().min(MOST_REQUESTS));
-        for (place, request) in said.requests.unnamed(room).enumerate() {
-            tally.add(&request);
-            phrases.meet(&request);
-            let rank = rank(&request, place);
+        let number = said.requests.len();
+        let (mut worst, mut uncaused) = (BinaryHeap::with_capacity(number.min(MOST_REQUESTS)), vec![false; number]);
+        said.requests.each_unnamed(room, |place, request| {
+            tally.add(request);
+            phrases.meet(request);
+            uncaused[place] = request.cause.kind == CauseKind::None;
+            let rank = rank(request, place);
             if worst.len() < MOST_REQUESTS {
                 worst.push(rank);
             } else if let Some(mut last) = worst.peek_mut().filter(|last| **last > rank) {
                 *last = rank;
             }
-        }
+        });
         phrases.all_met();
-        SummedConnection { said, place: at, tally, phrases, worst: worst.into_sorted_vec() }
+        SummedConnection { said, place: at, tally, phrases, worst: worst.into_sorted_vec(), uncaused }
     }
 }
 

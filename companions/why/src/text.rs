@@ -162,10 +162,11 @@ fn capital(text: &str) -> String {
 fn requests(one: &SummedConnection<'_>, answer: &Answer, page: &mut Page<'_>) -> io::Result<()> {
     let number = one.said.requests.len();
     let mut room = Room::default();
-    let mut ranks: Vec<Rank> = match page.look.has_all_requests() {
-        true => one.said.requests.unnamed(&mut room).enumerate().map(|(place, one)| rank(&one, place)).collect(),
-        false => one.worst.clone(),
-    };
+    let mut ranks: Vec<Rank> = Vec::new();
+    match page.look.has_all_requests() {
+        true => one.said.requests.each_unnamed(&mut room, |place, one| ranks.push(rank(one, place))),
+        false => ranks.extend(&one.worst),
+    }
     ranks.sort_unstable();
     let is_shown = |rank: &&Rank| page.look.has_all_requests() || rank.1 != 0 || number <= MOST_REQUESTS;
     let shown: Vec<usize> = ranks.iter().filter(is_shown).map(|rank| rank.3).collect();
@@ -254,13 +255,15 @@ fn idle_stall(said: &ConnectionSaid, page: &mut Page<'_>) -> io::Result<()> {
         return Ok(());
     }
     let mut room = Room::default();
-    let held = said.requests.unnamed(&mut room).filter(is_held);
-    let named: HashSet<(Side, u32)> = held
-        .map(|request| match request.cause.kind {
-            CauseKind::StreamWindow => (request.cause.side, request.stream),
-            _ => (request.cause.side, 0),
-        })
-        .collect();
+    let mut named: HashSet<(Side, u32)> = HashSet::new();
+    said.requests.each_unnamed(&mut room, |_, request| {
+        let stream = match request.cause.kind {
+            CauseKind::StreamWindow => request.stream,
+            CauseKind::ConnectionWindow => 0,
+            _ => return,
+        };
+        named.insert((request.cause.side, stream));
+    });
     match said.stalls.iter().find(|one| one.end.is_none() && !named.contains(&(one.side, one.stream))) {
         Some(stall) => page.folded(&format!("  {}", open_stall(stall, page)), "    ", Colour::Plain),
         None => Ok(()),

@@ -1,11 +1,10 @@
 //! How the answer is worded: rates, shares, lists of streams, and what it has of the explanation's words.
 
 use std::borrow::Cow;
-use std::fmt::Write;
 
 use explain::answer::Nanos;
-pub use explain::words::{code_name, count, put_time, time_of};
-use reports::{grouped, Side};
+pub use explain::words::{code_name, count, put_count, put_time, time_of};
+use reports::{grouped, put_grouped, put_number, Side};
 
 pub const SIDES: [Side; 2] = [Side::Client, Side::Server];
 const GRPC: [&str; 17] = [
@@ -27,6 +26,8 @@ const GRPC: [&str; 17] = [
     "DATA_LOSS",
     "UNAUTHENTICATED",
 ];
+/// Units of rates, and so many bytes a second of which they are told.
+const RATES: [(&str, i128); 3] = [("GB", 1_000_000_000), ("MB", 1_000_000), ("kB", 1_000)];
 /// So many of a list are named.
 const MOST_NAMED: usize = 8;
 
@@ -37,15 +38,27 @@ pub fn grpc_name(code: u32) -> Cow<'static, str> {
 
 /// So many bytes a second.
 pub fn rate_of(a_second: i128) -> String {
-    for (unit, size) in [("GB", 1_000_000_000), ("MB", 1_000_000), ("kB", 1_000)] {
-        if a_second >= size {
-            return match (a_second * 10 + size / 2) / size {
-                tenths @ 0..=999 => format!("{}.{} {unit}/s", tenths / 10, tenths % 10),
-                tenths => format!("{} {unit}/s", grouped(tenths / 10)),
-            };
+    let mut text = String::new();
+    put_rate(&mut text, a_second);
+    text
+}
+
+/// Puts so many bytes a second behind a text.
+pub fn put_rate(text: &mut String, a_second: i128) {
+    let found = RATES.iter().find(|one| a_second >= one.1);
+    let unit = found.map_or("B", |one| one.0);
+    match found.map(|one| (a_second * 10 + one.1 / 2) / one.1) {
+        Some(tenths @ 0..=999) => {
+            put_number(text, tenths as u64 / 10);
+            text.push('.');
+            put_number(text, tenths as u64 % 10);
         }
+        Some(tenths) => put_grouped(text, tenths / 10),
+        None => text.push_str(&a_second.to_string()),
     }
-    format!("{a_second} B/s")
+    text.push(' ');
+    text.push_str(unit);
+    text.push_str("/s");
 }
 
 /// A share in whole percent; what is there is never said to be 0 %.
@@ -63,7 +76,12 @@ pub fn put_percent(text: &mut String, part: Nanos, whole: Nanos) {
         _ if whole <= 0 => text.push_str("0 %"),
         _ if part != 0 && part * 1000 / whole < 10 => text.push_str("less than 1 %"),
         _ => {
-            let _ = write!(text, "{} %", (part * 100 + whole / 2) / whole);
+            let percent = (part * 100 + whole / 2) / whole;
+            match percent.try_into() {
+                Ok(percent) => put_number(text, percent),
+                Err(_) => text.push_str(&percent.to_string()),
+            }
+            text.push_str(" %");
         }
     }
 }

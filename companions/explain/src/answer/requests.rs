@@ -34,7 +34,7 @@ impl Share {
     ];
 
     #[inline]
-    pub fn name(self) -> &'static str {
+    pub const fn name(self) -> &'static str {
         match self {
             Share::Waiting => "waiting",
             Share::Sending => "sending",
