@@ -90,7 +90,7 @@ def example(program: str, capture: pathlib.Path) -> bool:
 
 
 def many_frames(program: str) -> bool:
-    """13,606 frames in more than 33 MiB: the capture is held in 34 chunks of 1 MiB, and the text grows often.
+    """13,606 frames in more than 33 MiB: the capture is read in more than 130 pieces, and the text grows often.
 
     A stream sends 6,800 DATA frames of 5,000 bytes, each granted back to the connection at once.
     """

@@ -25,7 +25,7 @@ use Rattle.audit_rounds.specs.code.Few.{PreparedAreFew, RestsAreFew}
 use Rattle.audit_rounds.specs.code.Pending.{is_pending, pending_of, put_back}
 use Rattle.audit_rounds.proofs.EarlyStop.{fronts_settle_lem}
 use Rattle.audit_rounds.proofs.Lists.{frames_in, some_of, all-alike, sums-alike}
-use Rattle.audit_rounds.proofs.Parts.{orderly-take}
+use Rattle.audit_terms.proofs.OrderlyFrames.{orderly-take}
 
 abbrev pub lent : Bor (List Frame) → ℕ
 lent = λ (frames : Bor (List Frame)). length frames.now

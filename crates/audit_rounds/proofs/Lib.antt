@@ -2,7 +2,6 @@ mod Words
 mod Lists
 mod Openings
 mod Settling
-mod Parts
 mod Items
 mod Rounds
 mod Batches

@@ -23,7 +23,7 @@ use Rattle.audit_rounds.specs.code.Blocks.{AreBlocksOf, laid_out, AreFit, IsRead
 use Rattle.audit_rounds.specs.code.Plans.{AreReady, shown_from}
 use Rattle.audit_rounds.proofs.Lists.{some_of}
 use Rattle.audit_core.proofs.PartsLemmas.{block_run-append}
-use Rattle.audit_rounds.proofs.Parts.{orderly-take, orderly-drop}
+use Rattle.audit_terms.proofs.OrderlyFrames.{orderly-drop, orderly-take}
 
 -- ---- one block more
 

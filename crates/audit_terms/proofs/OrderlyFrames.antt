@@ -2,7 +2,8 @@
 use Rattle.audit_terms.specs.code.runs.{Changes.AreOrderlyFrom, Orderly.IsInRange, Orderly.IsOrderlyFrom}
 use Rattle.audit_terms.specs.declared.{frames.Frame.Frame, items.Change.Change}
 use Rattle.std.proofs.Common.{Bool, List, [], ap, arith, drop, filter, get_or, length, suc, sym, zero, ℕ, ◌+◌, ◌<◌, ◌^◌}
-use Rattle.std.proofs.{Common.◌∙◌, Common.◌∷◌, Common.◌≡◌, Common.◌≤◌, lemmas.Grind.common_steps, lemmas.List.drop_more}
+use Rattle.std.proofs.Common.{take, ◌∙◌, ◌∷◌, ◌≡◌, ◌≤◌}
+use Rattle.std.proofs.{lemmas.Grind.common_steps, lemmas.List.drop_more}
 use Rattle.std.specs.Ordering.{nat_cmp, ordering_index}
 
 module _ {X : Type 0} (number : X → ℕ) where
@@ -59,6 +60,18 @@ pub orderly-earlier : (low high : ℕ) (frames : List Frame) → low ≤ high �
     → IsOrderlyFrom low frames
 orderly-earlier low high [] l h = tt
 orderly-earlier low high (frame ∷ frames) l h = (omega (arith, h.0), h.1, h.2)
+
+-- fronts and rests are orderly
+pub orderly-take : (low n : ℕ) (frames : List Frame) → IsOrderlyFrom low frames → IsOrderlyFrom low (take n frames)
+orderly-take low zero frames h = tt
+orderly-take low (suc n) [] h = tt
+orderly-take low (suc n) (frame ∷ frames) h = (h.0, h.1, orderly-take (frame.number + 1) n frames h.2)
+
+pub orderly-drop : (low n : ℕ) (frames : List Frame) → IsOrderlyFrom low frames → IsOrderlyFrom low (drop n frames)
+orderly-drop low zero frames h = h
+orderly-drop low (suc n) [] h = tt
+orderly-drop low (suc n) (frame ∷ frames) h =
+    orderly-earlier low (frame.number + 1) _ (omega (arith, h.0)) (orderly-drop (frame.number + 1) n frames h.2)
 
 pub orderly-filter : (test : Frame → Bool) (low : ℕ) (frames : List Frame) → IsOrderlyFrom low frames
     → IsOrderlyFrom low (filter test frames)

@@ -1,4 +1,4 @@
-//! Reports by one worker, who audits a capture as it is read, and by several, who go over its flows.
+//! Reports by one worker, who audits a capture as it is read, and by several, who go over frames that were kept.
 
 ghost use Rattle.std.specs.Prelude.{◌<◌, ◌≤◌, length};
 

@@ -4,8 +4,8 @@
 //! - What the calls answer is proved in their own crates, and worked out by proof in their `worked_examples`; no test
 //!   repeats an equation.
 //! - From segments to findings: that a stage over the packets of a capture, which hands segments to
-//!   `quiet_pass::ConnectionFindings`, tells what `found_connection` does of the flows, also where segments of two
-//!   connections come late, bring bytes again or are lost.
+//!   `quiet_pass::ConnectionFindings`, tells what `found_in` does of the frames, also where segments of two connections
+//!   come late, bring bytes again or are lost.
 //! - From frames to findings: that a look answers what another pass of the desk lowered; that a later job sees the stop
 //!   that an earlier one lowered; and that for random frames `findings_of_each` and `one_pass` have an answer, where
 //!   there is memory, and the same one. Contracts say how often runs over 1,000 frames look, and what they are handed

@@ -190,12 +190,6 @@ module _ {V : Type 0} (after : List Frame → V → Type 0) where
     none_handed stage = λ frames is. rw (append-nil frames) is
 
     -- one frame was
-    pub one_handed : (old new : Numbering V) (s : Spelled)
-        → ((frames : List Frame) → HasHanded after frames old
-        → HasHanded after (frames ++ frame_of source (length frames + 1) s ∷ []) new)
-        → AreHandedOn after source old (s ∷ []) new
-    one_handed old new s handed = handed
-
     -- some were, and then others
     pub both_handed : (old mid new : Numbering V) (xs ys : List Spelled) → AreHandedOn after source old xs mid
         → AreHandedOn after source mid ys new → AreHandedOn after source old (xs ++ ys) new

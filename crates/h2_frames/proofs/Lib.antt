@@ -10,8 +10,6 @@ mod Growth
 mod Merging
 mod BothSides
 mod Walking
-mod Splitting
-mod Batching
 mod Cutters
 mod Feeding
 mod Arising

@@ -1,8 +1,9 @@
 -- A walk over the frames of both sides goes on by one frame, or is over.
-use Rattle.std.proofs.Common.{◌≡◌, ℕ, ◌+◌, ◌*◌, ◌^◌, ◌<◌, ◌≤◌, List, [], ◌∷◌, ◌++◌, length, ap, ◌∙◌, arith}
+use Rattle.std.proofs.Common.{◌≡◌, ℕ, ◌+◌, ◌≤◌, List, [], ◌∷◌, ◌++◌, length, refl, ap, ◌∙◌, arith}
 use Rattle.std.proofs.{Common.append_assoc, lemmas.List.length_push}
-use Rattle.h2_frames.proofs.Words.{Flow, Frame, HaveNumbersFrom, IsInRange, IsOrderlyFrom, FrameWalk, AreMerged}
-use Rattle.h2_frames.proofs.Words.{IsReadyWalk, IsWalkAfter, IsWalkOn, SideFrame, taken_of, weight_of}
+use Rattle.h2_frames.proofs.Words.{AreLeft, AreMerged, Flow, Frame, FrameWalk, HaveNumbersFrom, IsInRange}
+use Rattle.h2_frames.proofs.Words.{IsOrderlyFrom, IsReady, IsWalkAfter, IsWalkOn, IsWholeWalk, Over, SideFrame}
+use Rattle.h2_frames.proofs.Words.{Unread, append-nil, bytes_left, taken_of}
 
 -- with one frame more they have their numbers
 pub numbers_push : (k : ℕ) (frames : List Frame) (f : Frame) → HaveNumbersFrom k frames → f.number ≡ k + length frames →
@@ -37,9 +38,6 @@ walk-on client server old new frames on before = record {
   });
 }
 
-pub few-on : (old new : FrameWalk) → IsWalkOn old new → IsReadyWalk old → 9 * taken_of new + weight_of new < 2 ^ 31
-few-on old new on ready = omega (arith, ready.few, on.client.weight, on.server.weight, on.taken)
-
 -- one frame is taken
 pub walk-turn : (client server : Flow) (walk walk' : FrameWalk) (frames : List Frame) (f : SideFrame)
     (frame : Frame) → taken_of walk' ≡ taken_of walk + 1 → frame ≡ record f.frame { number = taken_of walk + 1 }
@@ -61,3 +59,23 @@ walk-turn client server walk walk' frames f frame counted frame_is range first b
           rw (append_assoc frames (frame ∷ []), size, next)
           (before.whole (f ∷ later) tail other (first later tail other merged_are));
     }
+
+-- a side with no next frame has none left
+over-left : (unread : Unread) → IsReady unread → unread.next ≡ Over → AreLeft unread [] (bytes_left unread.bytes)
+over-left unread ready over = rw over (refl, (refl, rw over at ready.next))
+
+-- the walk is over
+pub walk-over : (client server : Flow) (walk : FrameWalk) (frames : List Frame) → IsReady walk.client →
+    IsReady walk.server → (walk.client.next ≡ Over) × (walk.server.next ≡ Over) →
+    IsWalkAfter client server frames walk → IsWholeWalk client server frames walk
+walk-over client server walk frames client_ready server_ready over before = record {
+  http2 = rw append-nil at (before.whole [] _ _ (record {
+    client_frames = [];
+    server_frames = [];
+    client_left = over-left walk.client client_ready over.0;
+    server_left = over-left walk.server server_ready over.1;
+    merged_are = refl;
+  }));
+  orderly = before.orderly;
+  count = before.count;
+}

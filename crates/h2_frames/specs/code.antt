@@ -3,8 +3,6 @@ pub mod Beginning
 pub mod Steps
 pub mod Merge
 pub mod Unread
-pub mod Limit
-pub mod Batch
 pub mod Walk
 pub mod Orderly
 pub mod SameCut

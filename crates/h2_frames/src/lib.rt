@@ -1,29 +1,21 @@
 //! The HTTP/2 frames of the two flows of a connection (RFC 9113): whether it is HTTP/2, by the client's connection
 //! preface (3.4), and which frames each side sent: nine header bytes, and the payload whose length they give (4.1).
 //!
-//! - [`cut_by`] returns the frames of both sides in one list, in capture order and numbered from 1: a frame is there
+//! - [`cut`] returns the frames of both sides in one list, in capture order and numbered from 1: a frame is there
 //!   when its last byte arrives. Type and flags decide how a frame's body is read (6.1 to 6.10): padding, the fields
 //!   before a field block, settings with the first value out of range, increments, promised streams. A payload of a
 //!   wrong size or with bad padding makes a frame with an unreadable body. The bytes at the end of a flow that hold no
 //!   whole frame are its tail.
-//! - The contract of [`cut_by`] is exactly this: `specs/Spelling.antt` defines which bytes spell a frame,
+//! - The contract of [`cut`] is exactly this: `specs/Spelling.antt` defines which bytes spell a frame,
 //!   `specs/Body.antt` what its payload says, `specs/CaptureOrder.antt` the order, and `specs/Cut.antt` puts them
 //!   together.
 //! - No other answer meets the contract for the same flows (`only` in `specs/code/Cutting.antt`). [`laws`] say so
 //!   without the code: one list of bytes has one spelling, two flows have one cut, frames that are told record by
 //!   record, as each completes them, are told in capture order, and bytes that are fed arrive with the record that
 //!   brings them.
-//! - With several threads it reads long flows in batches, with one frame by frame.
-//! - [`begin`] decides the same, and returns a [`FrameWalk`], an iterator over the frames, in place of a list:
-//!   [`FrameWalk::take_next`] takes the next frame. Its contract holds for whichever flows the walk began with
-//!   (`specs/code/Walk.antt`): the frames that were taken, followed by those that are left, are the connection's. Where
-//!   none is left, those that were taken are all, and [`FrameWalk::tails`] are the lengths of the tails.
-//! - [`FrameWalk::take_batch`] takes the frames of both sides up to a limit, a record and a number within it, each side
-//!   on a thread of its own; the result is that of taking one side after the other. [`FrameWalk::take_beside`] does so
-//!   while another thread works on the batch before it. No other call of this crate but [`cut_by`] starts threads.
-//!   [`Merge::take_next`] takes the frames of a [`FrameBatch`] in capture order (`specs/code/Batch.antt`). That order
-//!   compares record and number first, so all frames up to the limit come before all others. No contract says which
-//!   limit it is, only that at least one frame is up to it.
+//! - [`cut`] is a loop over a walk (`FrameWalk`), each step of which takes the next frame. The contract of a step holds
+//!   for whichever flows the walk began with (`specs/code/Walk.antt`): the frames that were taken, followed by those
+//!   that are left, are the connection's. Where none is left, those that were taken are all.
 //! - [`ConnectionCutter`] cuts frames out of bytes as they come. It is told as a `tcp_streams::GrowthVisitor` by which
 //!   bytes the flow of a side grows, and with which record, and hands each frame that they complete to a
 //!   [`FrameVisitor`], numbered in capture order: a record is of one side, so a frame that is there follows all that
@@ -37,7 +29,7 @@
 //!   takes a connection's segments one by one, with their payloads, and its `finish` says of both flows, as `assemble`
 //!   has them of whatever capture the payloads stand in, which kind of cut they have, and where they end
 //!   (`HasHandedFrames` of `specs/code/ConnectionFrames.antt`). By [`laws::ending_tells_the_cut`] that is the cut which
-//!   [`cut_by`] finds.
+//!   [`cut`] finds. The programs take this way.
 //! - A frame that is numbered within its side has a type of its own (`SideFrame`), and becomes a frame of the
 //!   connection where it gets its number there.
 //! - Frames are orderly, as calls on frames require: numbers rise, streams have 31 bits and lengths 24, times are below
@@ -46,20 +38,18 @@
 //!   2^31 bytes, so frame numbers stay below 2^28 - 1.
 //! - The definition of a spelling is a grammar by cases on the list of frames, and that of the order an insertion sort.
 //!   The code is different: a cursor in each flow reads one frame ahead, and the earlier of the two frames is taken.
-//!   [`cut_by`] is a loop over that, or over batches. A frame in one piece of its flow is read in place; otherwise the
-//!   header, and of the payload what its body is read from, are first copied into a buffer. The stage reads bytes in
-//!   place too, and no list is put in order.
+//!   A frame in one piece of its flow is read in place; otherwise the header, and of the payload what its body is read
+//!   from, are first copied into a buffer. The stage reads bytes in place too, and no list is put in order. No call
+//!   starts threads.
 //! - [`worked_examples`] compute bodies, headers and order on small inputs, by proof: each type's payload at the
 //!   lengths where its answer changes, padding, settings at the ends of their ranges.
-//! - The prover refuses: a value out of range left out, an order by first bytes, exchanged tails, batches merged by
-//!   records alone, a batch numbered from one too high, a list that keeps the last batch alone, one tail told
-//!   for both, a stage that takes each connection for one with a handshake, passes over segments without payload, takes
-//!   the server for the client or tells one end of both flows, a wrong preface that is waited for.
-//! - Whole reports test that `cut_by` succeeds where there is memory, on connections of each of the four kinds;
-//!   `threads_test.py` tests how many threads batches start.
+//! - The prover refuses: a value out of range left out, an order by first bytes, exchanged tails, one tail told for
+//!   both, a stage that takes each connection for one with a handshake, passes over segments without payload, takes the
+//!   server for the client or tells one end of both flows, a wrong preface that is waited for.
+//! - Whole reports test that the stage succeeds where there is memory, on connections of each of the four kinds.
+//!   Nothing tests that of [`cut`], which no program calls.
 #![tactic(auto)]
 
-mod batches;
 mod beginning;
 mod bodies;
 mod connection;
@@ -70,7 +60,6 @@ mod cutting;
 mod greeting;
 mod headers;
 pub mod laws;
-mod limits;
 mod numbering;
 mod order;
 mod pieces;
@@ -82,10 +71,8 @@ mod visitor;
 mod walk;
 pub mod worked_examples;
 
-pub use batches::{FrameBatch, Merge};
 pub use connection::{ConnectionCutter, Ending};
 pub use connection_frames::{ConnectionFrames, HandedFrames};
 pub use cuts::Cut;
-pub use cutting::cut_by;
+pub use cutting::cut;
 pub use visitor::FrameVisitor;
-pub use walk::{Begun, FrameWalk, begin};

@@ -30,13 +30,6 @@ impl SideFrame {
         self.frame.number
     }
 
-    /// The record at which its last byte arrived.
-    pub fn rec(&self) -> u32
-        ensures { result ≡ self.now.frame.rec }
-    {
-        self.frame.rec
-    }
-
     /// Does it come after another: by record, then by number within its side, then Client before Server?
     pub fn comes_after(&self, other: &SideFrame) -> bool
         ensures { result ≡ comes_after self.now other.now }

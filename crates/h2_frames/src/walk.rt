@@ -7,31 +7,21 @@ ghost use Rattle.audit_terms.specs.declared.frames.Frame.{Frame};
 ghost use Rattle.audit_terms.specs.code.runs.Orderly.{IsInRange};
 ghost use Rattle.h2_frames.specs.Preface.{BeginsWithPreface};
 ghost use Rattle.h2_frames.specs.code.Pieces.{bytes_left, IsMeasured};
-ghost use Rattle.h2_frames.specs.code.Batch.{HasTaken};
-ghost use Rattle.h2_frames.specs.code.Limit.{AreBothTaken, IsLimitOf};
-ghost use Rattle.h2_frames.specs.code.Unread.{IsReadAhead};
 ghost use Rattle.h2_frames.specs.code.Walk.{IsBegun, IsReadyWalk, IsWalkAfter, IsWalkOn, IsWholeWalk};
 ghost use Rattle.h2_frames.specs.code.Walk.{taken_of, tails_of, weight_of};
 
-use crate::batches::{FrameBatch, take_side_by_side};
 use crate::beginning::{Beginning, beginning_of};
 use crate::greeting::PREFACE;
-use crate::limits::{Limit, limit_of};
 use crate::order::take_first;
 use crate::pieces::Pieces;
 use crate::unread::Unread;
 use audit_terms::{Frame, Side, Sides};
 use std::alloc::{AllocError, Global};
-use std::thread::{Threads, join_mut};
 use tcp_streams::Flow;
-
-/// With so many bytes of both sides two threads work on them: fewer are read before a second one has started.
-/// (Measured: bench/README.md, Thresholds.)
-const LONG_BYTES: usize = 1_048_576;
 
 /// The frames of both sides of a connection, taken out one by one in capture order.
 #[derive(Drop)]
-pub struct FrameWalk<'a> {
+pub(crate) struct FrameWalk<'a> {
     client: Unread<'a>,
     server: Unread<'a>,
     taken: u32,
@@ -39,7 +29,7 @@ pub struct FrameWalk<'a> {
 
 /// What the two flows of a connection begin with: which kind of [`crate::Cut`] they have.
 #[derive(Drop)]
-pub enum Begun<'a> {
+pub(crate) enum Begun<'a> {
     /// The preface, and then the frames of this walk.
     Http2(FrameWalk<'a>),
     /// The client's bytes do not begin with the connection preface.
@@ -78,7 +68,7 @@ impl<'a> FrameWalk<'a> {
     }
 
     /// Reads the next frame of each side ahead.
-    // Called for each frame that is taken by itself.
+    // Called for each frame.
     #[inline(always)]
     fn read_ahead(&mut self) -> Result<(), AllocError>
         requires { IsReadyWalk self.old }
@@ -118,100 +108,6 @@ impl<'a> FrameWalk<'a> {
         Ok(Some(first.numbered(self.taken)))
     }
 
-    /// Reads the next frame of each side ahead, and returns the limit of the next batch, where there is a frame left.
-    fn limit_ahead(&mut self, batch: &mut FrameBatch) -> Result<Option<Limit>, AllocError>
-        requires { IsReadyWalk self.old }
-        ensures on { OnOk result (IsWalkOn self.old self.new) }
-        ensures limit { IfOk result (IsLimitOf self.new.client.next self.new.server.next) }
-    {
-        self.read_ahead()?;
-        Ok(limit_of(&self.client, &self.server, batch.next_reach()))
-    }
-
-    /// Takes the frames of both sides up to a limit, side by side where there are three threads, of which the caller
-    /// keeps one.
-    fn take_up_to<R: Threads>(
-        &mut self,
-        rt: &R,
-        threads: usize,
-        limit: Limit,
-        batch: &mut FrameBatch,
-    ) -> Result<(), AllocError>
-        requires client { IsReadAhead self.old.client }
-        requires server { IsReadAhead self.old.server }
-        ensures taken { OnOk result (self.new.taken ≡ self.old.taken) }
-        ensures both { OnOk result
-            (AreBothTaken limit self.old.client self.new.client self.old.server self.new.server
-            batch.new.client.items batch.new.server.items) }
-    {
-        let (client, server) = (&mut self.client, &mut self.server);
-        let (sent, answered) = (&mut batch.client, &mut batch.server);
-        if threads < 3 {
-            client.take_up_to(limit, sent)?;
-            server.take_up_to(limit, answered)
-        } else {
-            take_side_by_side(rt, limit, client, server, sent, answered)
-        }
-    }
-
-    /// Takes the next frames of both sides out together, in place of those of `batch`. Is there one?
-    ///
-    /// As with [`FrameWalk::take_next`], they and those to come are the connection's. Each side is read by itself, on a
-    /// thread of its own where there are three `threads` or more. A batch has all frames up to some record, so that
-    /// none of it has to wait for one that is not read; how many these are, no contract says.
-    pub fn take_batch<R: Threads>(
-        &mut self,
-        rt: &R,
-        threads: usize,
-        batch: &mut FrameBatch,
-    ) -> Result<bool, AllocError>
-        requires { IsReadyWalk self.old }
-        ensures { IfOk result (HasTaken self.old self.new batch.new) }
-    {
-        let Some(limit) = self.limit_ahead(batch)? else {
-            return Ok(false);
-        };
-        self.take_up_to(rt, threads, limit, batch)?;
-        self.taken = batch.number_on(self.taken);
-        Ok(true)
-    }
-
-    /// Takes the next batch out while some work is done on `batch`, which was taken before it: by two threads at once
-    /// where there are as many and the batch is not short.
-    pub fn take_beside<R: Threads, F: FnMut() -> T + Send, T: Send>(
-        &mut self,
-        rt: &R,
-        threads: usize,
-        batch: &FrameBatch,
-        work: &mut F,
-        next: &mut FrameBatch,
-    ) -> (T, Result<bool, AllocError>)
-        requires ready { IsReadyWalk self.old }
-        requires work { F.pre work.old }
-        ensures done { F.step work.old result.0 work.new }
-        ensures taken { IfOk result.1 (HasTaken self.old self.new next.new) }
-    {
-        if threads < 2 || batch.is_short() {
-            let done = work();
-            return (done, self.take_batch(rt, 1, next));
-        }
-        join_mut(rt, work, &mut || self.take_batch(rt, threads, next))
-    }
-
-    /// Are there so many bytes to come that two threads are worth their start?
-    pub fn is_long(&self) -> bool
-        requires { IsReadyWalk self.now }
-    {
-        LONG_BYTES <= self.client.bytes.len() + self.server.bytes.len()
-    }
-
-    /// How many frames were taken.
-    pub fn taken(&self) -> u32
-        ensures { result ≡ taken_of self.now }
-    {
-        self.taken
-    }
-
     /// How many bytes each side's flow has after its last frame, once there is no frame left.
     pub fn tails(&self) -> Sides<u32>
         requires { IsReadyWalk self.now }
@@ -226,8 +122,8 @@ impl<'a> FrameWalk<'a> {
 
 /// Begins a walk over the frames of a connection's client and server: decides whether it is HTTP/2, and reads none yet.
 ///
-/// The flows are to be as [`crate::cut_by`] asks, and its four kinds are these.
-pub fn begin<'a>(alloc: Global, client: &'a Flow<'a>, server: &'a Flow<'a>) -> Begun<'a>
+/// The flows are to be as [`crate::cut`] asks, and its four kinds are these.
+pub(crate) fn begin<'a>(alloc: Global, client: &'a Flow<'a>, server: &'a Flow<'a>) -> Begun<'a>
     requires { AreFlowsOfOne client.now server.now }
     ensures { IsBegun client.now server.now result }
 {

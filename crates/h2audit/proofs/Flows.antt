@@ -19,8 +19,10 @@ use Rattle.h2_frames.specs.code.Orderly.{HasOrderlyFrames}
 use Rattle.h2_frames.specs.declared.cuts.Cut.{Cut}
 use Rattle.h2_frames.specs.declared.cuts.Cut.TheVariants.{Http2, NotHttp2, NoPreface, NoHandshake}
 use Rattle.tcp_streams.specs.{Flow.IsFlowFrom}
-use Rattle.h2audit.specs.code.Flows.{AreToldFlows, FlowView, IsHeldBy, IsToldFlows, KeepsCut, KeepsFound}
-use Rattle.h2audit.specs.code.Flows.{flow_job, flow_jobs}
+use Rattle.h2audit.specs.code.Flows.{AreMadeOf, AreToldFlows, FlowView, IsHeldBy, IsMadeOf, KeepsCut, KeepsFound}
+use Rattle.h2audit.specs.code.Flows.{IsToldOfFlows, flow_job, flow_jobs}
+use Rattle.h2audit.specs.code.Listed.{HoldsFlows}
+use Rattle.h2audit.specs.declared.listed_connections.HeldFlows.{HeldFlows}
 use Rattle.quiet_pass.specs.code.FoundConnections.{IsFoundOf}
 use Rattle.quiet_pass.specs.declared.found_connections.FoundConnection.{FoundConnection}
 use Rattle.h2audit.specs.code.KeptFrames.{frames_of, kept_frames}
@@ -34,29 +36,29 @@ use Rattle.tcp_streams.specs.Sequence.{Source, source}
 use Rattle.tcp_streams.specs.declared.members.Connection.{Connection}
 use Rattle.tcp_streams.specs.declared.flows.Flow.{Flow}
 
-pub flow_jobs-length : (opened : List Connection) → length (flow_jobs opened) ≡ length opened
-flow_jobs-length opened = length-map-range_with_len flow_job 0 (length opened)
+pub flow_jobs-length : (held : List HeldFlows) → length (flow_jobs held) ≡ length held
+flow_jobs-length held = length-map-range_with_len flow_job 0 (length held)
 
-pub flow_jobs-at : (opened : List Connection) (n : ℕ) (one : Job) → slice_get (flow_jobs opened) n ≡ Some one
+pub flow_jobs-at : (held : List HeldFlows) (n : ℕ) (one : Job) → slice_get (flow_jobs held) n ≡ Some one
     → one ≡ flow_job n
-flow_jobs-at opened n one is =
-    let within = slice_get_within (flow_jobs opened) n one is in
-    sym (get_or_from_slice_get (flow_jobs opened) n one one is)
-    ∙ get_or-map-range_with_len flow_job 0 (length opened) n n one (omega (arith, within, flow_jobs-length opened))
+flow_jobs-at held n one is =
+    let within = slice_get_within (flow_jobs held) n one is in
+    sym (get_or_from_slice_get (flow_jobs held) n one one is)
+    ∙ get_or-map-range_with_len flow_job 0 (length held) n n one (omega (arith, within, flow_jobs-length held))
     (omega arith)
 
-pub flow_jobs-within : (opened : List Connection)
-    → All (λ (job : Job). job.connection < length opened) (flow_jobs opened)
-flow_jobs-within opened = λ k d within.
-    let low : k < length opened = omega (arith, within, flow_jobs-length opened) in
-    subst (λ (job : Job). job.connection < length opened)
-    (sym (get_or-map-range_with_len flow_job 0 (length opened) k k d low (omega arith))) low
+pub flow_jobs-within : (held : List HeldFlows)
+    → All (λ (job : Job). job.connection < length held) (flow_jobs held)
+flow_jobs-within held = λ k d within.
+    let low : k < length held = omega (arith, within, flow_jobs-length held) in
+    subst (λ (job : Job). job.connection < length held)
+    (sym (get_or-map-range_with_len flow_job 0 (length held) k k d low (omega arith))) low
 
 -- the connection of a job
-pub job-within : (inside view : FlowView) (job : ℕ) → inside ≡ view → job < length (flow_jobs view.opened)
-    → job < length inside.opened
+pub job-within : (inside view : FlowView) (job : ℕ) → inside ≡ view → job < length (flow_jobs view.held)
+    → job < length inside.held
 job-within inside view job is within =
-    omega (arith, within, flow_jobs-length view.opened, ap (λ (v : FlowView). length v.opened) is)
+    omega (arith, within, flow_jobs-length view.held, ap (λ (v : FlowView). length v.held) is)
 
 pub nothing-cut : IsCut [] None []
 nothing-cut = record {
@@ -66,32 +68,33 @@ nothing-cut = record {
   past = λ found among. let below = among.1 in absurd (omega arith);
 }
 
+pub are-made : (credits : Bool) (held : List HeldFlows) (parts : List (Part (Option Outcome)))
+    → length parts ≡ length held
+    → ((n : ℕ) (part : Part (Option Outcome)) (one : HeldFlows) → slice_get parts n ≡ Some part
+    → slice_get held n ≡ Some one → IsMadeOf credits one part.made) → AreMadeOf credits held parts
+are-made credits [] [] same each = tt
+are-made credits [] (p ∷ parts) same each = absurd (omega arith)
+are-made credits (h ∷ held) [] same each = absurd (omega arith)
+are-made credits (h ∷ held) (p ∷ parts) same each =
+    (each 0 p h refl refl, are-made credits held parts (omega arith) (λ n. each (suc n)))
+
+pub held-orderly : (credits : Bool) (client server : Flow) (o : Outcome) → IsHeldBy credits client server o
+    → HasOrderlyOutcome o
+held-orderly credits client server (outcome.Found found) held =
+    rw held.1.kept.frames held.1.of_flows.some_orderly
+held-orderly credits client server (outcome.Audited audited) held = held.2
+held-orderly credits client server _ held = tt
+
 module _ (credits : Bool) (capture : List ℕ) (packets : List Packet) where
-  pub are-told : (opened : List Connection) (parts : List (Part Told)) → length parts ≡ length opened
-      → ((n : ℕ) (part : Part Told) (connection : Connection) → slice_get parts n ≡ Some part
-      → slice_get opened n ≡ Some connection → IsToldFlows credits capture packets connection part.made)
-      → AreToldFlows credits capture packets opened parts
-  are-told [] [] same each = tt
-  are-told [] (p ∷ parts) same each = absurd (omega arith)
-  are-told (c ∷ opened) [] same each = absurd (omega arith)
-  are-told (c ∷ opened) (p ∷ parts) same each =
-      (each 0 p c refl refl, are-told opened parts (omega arith) (λ n. each (suc n)))
-
-  pub held-orderly : (client server : Flow) (o : Outcome) → IsHeldBy credits client server o → HasOrderlyOutcome o
-  held-orderly client server (outcome.Found found) held = rw held.1.kept.frames held.1.of_flows.some_orderly
-  held-orderly client server (outcome.Audited audited) held = held.2
-  held-orderly client server _ held = tt
-
-  pub told-orderly : (opened : List Connection) (parts : List (Part Told))
-      → AreToldFlows credits capture packets opened parts
-      → All (λ (part : Part Told). HasOrderlyOutcome part.made.outcome) parts
-  told-orderly [] [] are = All-nil (λ (part : Part Told). HasOrderlyOutcome part.made.outcome)
-  told-orderly [] (p ∷ parts) are = absurd are
+  pub told-orderly : (opened : List Connection) (told : List Told)
+      → AreToldFlows credits capture packets opened told → All (λ (one : Told). HasOrderlyOutcome one.outcome) told
+  told-orderly [] [] are = All-nil (λ (one : Told). HasOrderlyOutcome one.outcome)
+  told-orderly [] (one ∷ told) are = absurd are
   told-orderly (c ∷ opened) [] are = absurd are
-  told-orderly (c ∷ opened) (p ∷ parts) are =
-      All-cons (λ (part : Part Told). HasOrderlyOutcome part.made.outcome) p parts
-      (held-orderly are.0.flows.client are.0.flows.server p.made.outcome are.0.told.held)
-      (told-orderly opened parts are.1)
+  told-orderly (c ∷ opened) (one ∷ told) are =
+      All-cons (λ (one : Told). HasOrderlyOutcome one.outcome) one told
+      (held-orderly credits are.0.flows.client are.0.flows.server one.outcome are.0.told.held)
+      (told-orderly opened told are.1)
 
 -- what is kept of a cut is held by the flows that it is the cut of
 held-in : (credits : Bool) (client server : Flow) (o : Outcome) (cut : Cut) → KeepsCut o cut
@@ -107,11 +110,25 @@ held-in credits client server outcome.NoPreface NoPreface keeps is orderly = is
 held-in credits client server outcome.NoHandshake NoHandshake keeps is orderly = is
 held-in credits client server _ _ keeps is orderly = absurd keeps
 
-pub held-if : {E : Type 0} (credits : Bool) (client server : Flow) (made : Result Outcome E) (cut : Cut)
-    → IfOk made (λ o. KeepsCut o cut) → h2.IsCut client server cut → HasOrderlyFrames cut
-    → IfOk made (IsHeldBy credits client server)
-held-if credits client server (Ok o) cut keeps is orderly = held-in credits client server o cut keeps is orderly
-held-if credits client server (Err e) cut keeps is orderly = tt
+-- what is told at once of flows, or what their cut keeps, is told of them
+module _ (credits : Bool) (held : HeldFlows) (o : Outcome) (client server : Flow) where
+  pub told-at-once : (made : Option Outcome) → IsMadeOf credits held made → made ≡ Some o
+      → HoldsFlows client server held
+      → IsToldOfFlows credits client server (record { reach = held.reach; outcome = o })
+  told-at-once made is same holds =
+      let at_once : IsMadeOf credits held (Some o) = subst (IsMadeOf credits held) same is in
+      record {
+        extents = holds.extents;
+        held = subst (λ (shown : Bool). IsHeldBy shown client server o) (sym at_once.0)
+            (at_once.1 client server holds.cut.is);
+      }
+
+  pub told-kept : KeepsCut o held.cut → HoldsFlows client server held
+      → IsToldOfFlows credits client server (record { reach = held.reach; outcome = o })
+  told-kept keeps holds = record {
+    extents = holds.extents;
+    held = held-in credits client server o held.cut keeps holds.cut.is holds.cut.orderly;
+  }
 
 -- so is what is kept of what was found in them
 pub held-found : (client server : Flow) (found : FoundConnection) (o : Outcome) → KeepsFound o found
@@ -149,13 +166,13 @@ kept-first (outcome.Audited audited) rest orderly all =
     All-cons runs.IsOrderly audited.value.frames.items rest orderly all
 kept-first _ rest orderly all = all
 
-pub kept-orderly : (parts : List (Part Told)) → All (λ (part : Part Told). HasOrderlyOutcome part.made.outcome) parts
-    → All runs.IsOrderly (kept_frames parts)
+pub kept-orderly : (told : List Told) → All (λ (one : Told). HasOrderlyOutcome one.outcome) told
+    → All runs.IsOrderly (kept_frames told)
 kept-orderly [] all = All-nil runs.IsOrderly
-kept-orderly (p ∷ parts) all =
-    let whole = λ (part : Part Told). HasOrderlyOutcome part.made.outcome in
-    kept-first p.made.outcome (kept_frames parts) (All-head whole p parts all)
-    (kept-orderly parts (All-tail whole p parts all))
+kept-orderly (one ∷ told) all =
+    let whole = λ (one : Told). HasOrderlyOutcome one.outcome in
+    kept-first one.outcome (kept_frames told) (All-head whole one told all)
+    (kept-orderly told (All-tail whole one told all))
 
 -- a fact of what each of some references stands for
 pub All-lent : (lent : List (Bor (List Frame))) → All runs.IsOrderly (map (λ frames. frames.now) lent)

@@ -10,10 +10,10 @@ use Rattle.input_output.specs.Account.{given, kept}
 use Rattle.input_output.specs.declared.capture_reader.CaptureReader.{CaptureReader}
 use Rattle.packet_heads.specs.code.Walk.{HasMade}
 use Rattle.packet_heads.specs.declared.walk.PacketWalk.{PacketWalk}
-use Rattle.tcp_streams.specs.code.Walk.{IsConnectionWalkIn}
-use Rattle.tcp_streams.specs.declared.walk.ConnectionWalk.{ConnectionWalk}
+use Rattle.packet_heads.specs.declared.packets.Segment.{Segment}
+use Rattle.tcp_streams.specs.code.Side.{Sent}
 use Rattle.h2audit.specs.code.Met.{HasMetPackets}
-use Rattle.h2audit.specs.code.Reading.{AnswersFor, IsHeaderOf, IsMetHeaderOf}
+use Rattle.h2audit.specs.code.Reading.{AnswersFor, IsMetHeaderOf}
 use Rattle.h2audit.specs.declared.met_captures.MetCapture.{MetCapture}
 use Rattle.h2audit.specs.declared.reading.FileHeader.{FileHeader}
 use Rattle.h2audit.specs.declared.reading.FileHeader.TheVariants as header
@@ -30,34 +30,17 @@ unrefused capture result (Some e) same refused is =
     let memory : e ≡ OutOfMemory = cc in absurd (refuses_none capture (same ∙ ap Some memory))
 
 -- what the beginning of a capture gives
-pub header_of : (bytes : List ℕ) (begun : Result ConnectionWalk PcapFault) (gives : FileHeader ConnectionWalk)
-    → IfOk begun (λ walk. gives ≡ header.Taken walk) → IfErr begun (λ e. gives ≡ header.Refused e)
-    → IfOk begun (IsConnectionWalkIn bytes) → IfErr begun (λ e. refusal bytes ≡ Some e) → IsHeaderOf bytes gives
-header_of bytes (Ok walk) gives taken refused ok err = subst (IsHeaderOf bytes) (sym taken) ok
-header_of bytes (Err e) gives taken refused ok err = subst (IsHeaderOf bytes) (sym refused) err
-
-pub met_header_of : (bytes : List ℕ) (begun : Result (PacketWalk MetCapture) PcapFault)
-    (gives : FileHeader (PacketWalk MetCapture))
-    → IfOk begun (λ walk. gives ≡ header.Taken walk) → IfErr begun (λ e. gives ≡ header.Refused e)
-    → IfOk begun (HasMade HasMetPackets bytes) → IfErr begun (λ e. refusal bytes ≡ Some e)
-    → IsMetHeaderOf bytes gives
-met_header_of bytes (Ok walk) gives taken refused ok err = subst (IsMetHeaderOf bytes) (sym taken) ok
-met_header_of bytes (Err e) gives taken refused ok err = subst (IsMetHeaderOf bytes) (sym refused) err
+module _ {V : Type 0} (after : Segment → List Sent → ℕ → V → Type 0) where
+  pub met_header_of : (bytes : List ℕ) (begun : Result (PacketWalk (MetCapture V)) PcapFault)
+      (gives : FileHeader (PacketWalk (MetCapture V)))
+      → IfOk begun (λ walk. gives ≡ header.Taken walk) → IfErr begun (λ e. gives ≡ header.Refused e)
+      → IfOk begun (HasMade (HasMetPackets after) bytes) → IfErr begun (λ e. refusal bytes ≡ Some e)
+      → IsMetHeaderOf after bytes gives
+  met_header_of bytes (Ok walk) gives taken refused ok err = subst (IsMetHeaderOf after bytes) (sym taken) ok
+  met_header_of bytes (Err e) gives taken refused ok err = subst (IsMetHeaderOf after bytes) (sym refused) err
 
 module _ {R : Type 0} where
-  -- a file header that is kept and not refused stays in front
-  pub header_stays : (first new : CaptureReader R) → length (kept first) ≡ 24
-      → take (length (kept first)) (kept new) ≡ kept first → refusal (kept first) ≡ None
-      → refusal (take 24 (kept new)) ≡ None
-  header_stays first new size front taken =
-      let same : take 24 (kept new) ≡ kept first = subst (λ (n : ℕ). take n (kept new) ≡ kept first) size front in
-      ap refusal same ∙ taken
-
-  -- what is kept answers for the bytes that the reads gave, where it is all of them
-  pub whole_answers : (reader : CaptureReader R) → given reader ≡ kept reader → AnswersFor (kept reader) (given reader)
-  whole_answers reader same = (ap refusal (sym same), λ taken. sym same)
-
-  -- or the file header that refuses them
+  -- what is kept answers for the bytes that the reads gave, where it is the file header that refuses them
   pub header_answers : (reader : CaptureReader R) (passed : List ℕ) (e : PcapFault)
       → given reader ≡ kept reader ++ passed → length (kept reader) ≡ 24 → refusal (kept reader) ≡ Some e
       → AnswersFor (kept reader) (given reader)

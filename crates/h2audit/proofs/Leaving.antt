@@ -1,6 +1,6 @@
 -- What a run on the front of a reader's bytes leaves is what a run on all of them leaves.
 use Rattle.std.proofs.Common.{◌≡◌, ◌∙◌, ℕ, Bool, ◌<◌, ◌≤◌, min, List, [], length, take, Option, Some, None, Ok}
-use Rattle.std.proofs.Common.{Err, Result, inl, inr, refl, rules, sym, ap, subst, arith}
+use Rattle.std.proofs.Common.{Err, IfErr, IfOk, Result, inl, inr, refl, rules, sym, ap, subst, arith}
 use Rattle.std.specs.Prelude.{◌≢◌}
 use Rattle.std.proofs.lemmas.List.{append-nil, length-take, take_all}
 use Rattle.std.specs.Io.KnownBytes.{Appends, Keeps}
@@ -10,8 +10,8 @@ use Rattle.pcap_records.proofs.Sizes.{front_decides_lem, allowed_is_short_lem}
 use Rattle.input_output.specs.Account.{IsReadToEnd, given, kept}
 use Rattle.input_output.specs.Account.{IsUnwritten, written}
 use Rattle.h2audit.specs.Account.{HasGiven, IsBrief, Tells}
-use Rattle.h2audit.specs.code.Reading.{AnswersFor, IsAuditingFault, IsReadingFault}
-use Rattle.h2audit.specs.code.Writing.{IsWritten}
+use Rattle.h2audit.specs.code.Reading.{AnswersFor, IsReadingFault}
+use Rattle.h2audit.specs.code.Writing.{IsAnswered, IsWritten}
 use Rattle.h2audit.specs.Report.{IsNoReport, IsReport}
 use Rattle.h2audit.specs.laws.Run.{FaultsAreSilent, RunsLeave}
 use Rattle.h2audit.specs.declared.fault.AuditFault.{AuditFault}
@@ -40,14 +40,7 @@ keeps_nothing (Some xs) None appends = absurd appends
 keeps_nothing (Some xs) (Some ys) appends = appends ∙ append-nil xs
 
 module _ {R : Type 0} where
-  -- the report of what is kept is that of the bytes that the reads gave
-  pub report_of_given : (reader : CaptureReader R) (shown : Bool) (text : List ℕ) (verdict : Verdict)
-      → AnswersFor (kept reader) (given reader) → IsReport (kept reader) shown text verdict
-      → IsReport (given reader) shown text verdict
-  report_of_given reader shown text verdict answers report =
-      subst (λ (bytes : List ℕ). IsReport bytes shown text verdict) (answers.1 (sym answers.0 ∙ report.taken)) report
-
-  -- and so is the refusal
+  -- what is kept has the refusal of the bytes that the reads gave
   pub refusal_of_given : (reader : CaptureReader R) (e : Option PcapFault) → AnswersFor (kept reader) (given reader)
       → refusal (kept reader) ≡ e → refusal (given reader) ≡ e
   refusal_of_given reader e answers is = sym answers.0 ∙ is
@@ -66,12 +59,6 @@ module _ {R : Type 0} where
   given_unread None reader e is = tt
   given_unread (Some bytes) reader e is = λ read. absurd (not_to_end reader e is read)
 
-  -- an audit that fails changes nothing of what is kept
-  pub brief_fault : (old new : CaptureReader R) (e : AuditFault) → IsAuditingFault e old new → IsBrief old → IsBrief new
-  brief_fault old new e (inl (same, is)) brief = subst (λ (reader : CaptureReader R). IsBrief reader) (sym same) brief
-  brief_fault old new e (inr (lacked, wanting)) brief =
-      subst (λ (reader : CaptureReader R). IsBrief reader) (sym lacked) brief
-
 module _ {R W : Type 0} where
   -- reading that failed is told, where nothing was written
   pub tells_unread : (reader : CaptureReader R) (writer : ReportWriter W) (shown : Bool) (e : AuditFault)
@@ -89,28 +76,6 @@ module _ {R W : Type 0} where
   tells_refused reader writer shown fault.Read read unwritten is = absurd is
   tells_refused reader writer shown fault.Write read unwritten is = absurd is
 
-  -- what is kept has no report, and neither have the bytes that the reads gave
-  pub tells_no_report : (reader : CaptureReader R) (writer : ReportWriter W) (shown : Bool) (e : AuditFault)
-      → IsReadToEnd reader → AnswersFor (kept reader) (given reader) → IsUnwritten writer
-      → IsNoReport (kept reader) e → Tells reader writer shown (Err e)
-  tells_no_report reader writer shown (fault.Pcap e) read answers unwritten is =
-      (read, refusal_of_given reader (Some e) answers is, unwritten)
-  tells_no_report reader writer shown fault.OutOfMemory read answers unwritten is =
-      (inr (read, refusal_of_given reader None answers is), unwritten)
-  tells_no_report reader writer shown fault.Read read answers unwritten is = absurd is
-  tells_no_report reader writer shown fault.Write read answers unwritten is = absurd is
-
-  -- where the audit of what is kept fails, the account tells why
-  pub tells_fault : (old new : CaptureReader R) (writer : ReportWriter W) (shown : Bool) (e : AuditFault)
-      → IsReadToEnd old → AnswersFor (kept old) (given old) → IsUnwritten writer
-      → IsAuditingFault e old new → Tells new writer shown (Err e)
-  tells_fault old new writer shown e read answers unwritten (inl (same, is)) =
-      subst (λ reader. Tells reader writer shown (Err e)) (sym same)
-      (tells_no_report old writer shown e read answers unwritten is)
-  tells_fault old new writer shown e read answers unwritten (inr (lacked, wanting)) =
-      subst (λ fault. Tells new writer shown (Err fault)) (sym wanting)
-      (inl (ap (λ (reader : CaptureReader R). reader.state) lacked), unwritten)
-
   -- a report that was written, or a front of it
   pub tells_written : (reader : CaptureReader R) (writer : ReportWriter W) (shown : Bool) (text : List ℕ)
       (verdict : Verdict) (answer : Result Verdict AuditFault) → IsReadToEnd reader
@@ -125,6 +90,18 @@ module _ {R W : Type 0} where
   tells_written reader writer shown text verdict (Err fault.Write) read report (failed, (n, is)) =
       (read, failed, (text, verdict, n, report, is))
   tells_written reader writer shown text verdict (Err _) read report is = absurd is
+
+  -- what is answered of a report, if there is one
+  pub tells_answer : (reader : CaptureReader R) (old new : ReportWriter W) (shown : Bool)
+      (audited : Result (List ℕ × Verdict) AuditFault) (answer : Result Verdict AuditFault) → IsReadToEnd reader
+      → IsUnwritten old → IfOk audited (λ r. IsReport (given reader) shown r.0 r.1)
+      → IfErr audited (IsNoReport (given reader)) → IsAnswered audited old new answer → Tells reader new shown answer
+  tells_answer reader old new shown (Ok r) answer read unwritten report refused is =
+      tells_written reader new shown r.0 r.1 answer read report is
+  tells_answer reader old new shown (Err e) answer read unwritten report refused is =
+      subst (λ (a : Result Verdict AuditFault). Tells reader new shown a) (sym is.1)
+      (tells_refused reader new shown e read (subst (λ (w : ReportWriter W). IsUnwritten w) (sym is.0) unwritten)
+      refused)
 
   -- after a fault other than a failed write nothing was written
   unwritten_after : (reader : CaptureReader R) (writer : ReportWriter W) (shown : Bool) (e : AuditFault)
@@ -175,10 +152,3 @@ module _ (R W : Type 0) where
       | inr read ↦ sym (front_decides_lem all) ∙ rw (gave read.0) at read.1
     ],
   )
-
--- and the reads gave what they gave
-pub given_fault : {R : Type 0} (old new : CaptureReader R) (e : AuditFault) (bytes : List ℕ)
-    → IsAuditingFault e old new → given old ≡ bytes → given new ≡ bytes
-given_fault old new e bytes (inl (same, is)) gave = subst (λ reader. given reader ≡ bytes) (sym same) gave
-given_fault old new e bytes (inr (lacked, wanting)) gave =
-    subst (λ reader. given reader ≡ bytes) (sym lacked) gave

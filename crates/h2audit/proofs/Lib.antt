@@ -11,3 +11,4 @@ mod Added
 mod Alike
 mod Zips
 mod MetAudits
+mod Openings

@@ -29,7 +29,6 @@ use Rattle.std.proofs.Common.{ℕ, ◌++◌, ◌<◌}
 use Rattle.std.proofs.{Common.◌^◌, Common.◌||◌, Common.◌∙◌, Common.◌∷◌, Common.◌≡◌, lemmas.List.map-append}
 use Rattle.std.proofs.{Common.All, lemmas.List.Elements.All-cons, lemmas.List.Elements.All-head}
 use Rattle.std.{proofs.lemmas.List.Elements.All-nil, proofs.lemmas.List.Elements.All-tail, specs.List.list_any}
-use Rattle.stop_desk.specs.declared.parts.Part.{Part}
 use Rattle.tcp_streams.specs.declared.{members.Connection.Connection, flows.Flow.Flow}
 use Rattle.h2_frames.specs.declared.cuts.Cut.TheVariants as cut
 
@@ -160,26 +159,25 @@ module _ (credits : Bool) (capture : List ℕ) (packets : List Packet) (c : Conn
       (here ∙ with_them) refl tt
 
 module _ (credits : Bool) (capture : List ℕ) (packets : List Packet) where
-  pub told-audits : (opened : List Connection) (parts : List (Part Told)) (found : List Findings) (told : List Told)
-      → AreToldFlows credits capture packets opened parts → map findings_in found ≡ shown_in_kept credits parts
-      → AreToldWith parts found told → AreToldAudits credits capture packets opened told
+  pub told-audits : (opened : List Connection) (made : List Told) (found : List Findings) (told : List Told)
+      → AreToldFlows credits capture packets opened made → map findings_in found ≡ shown_in_kept credits made
+      → AreToldWith made found told → AreToldAudits credits capture packets opened told
   told-audits [] [] found told are same put = subst (AreToldAudits credits capture packets []) (sym put) (record {
     audited = [];
     audits = tt;
     stands = tt;
     orderly = All-nil (λ (one : Told). HasOrderlyOutcome one.outcome);
   })
-  told-audits [] (p ∷ parts) found told are same put = absurd are
+  told-audits [] (m ∷ made) found told are same put = absurd are
   told-audits (c ∷ opened) [] found told are same put = absurd are
-  told-audits (c ∷ opened) (p ∷ parts) found [] are same put = absurd put
-  told-audits (c ∷ opened) (p ∷ parts) found (one ∷ told) are same put =
+  told-audits (c ∷ opened) (m ∷ made) found [] are same put = absurd put
+  told-audits (c ∷ opened) (m ∷ made) found (one ∷ told) are same put =
       let flows = are.0.flows in
-      let made = p.made in
-      let step = step-of credits capture packets c flows are.0.client are.0.server made.reach
-      are.0.told.extents (shown_in_kept credits parts) made.outcome are.0.told.held found
-      (same ∙ map-append (λ frames. shown credits (pass frames)) (frames_of made.outcome) (kept_frames parts))
+      let step = step-of credits capture packets c flows are.0.client are.0.server m.reach
+      are.0.told.extents (shown_in_kept credits made) m.outcome are.0.told.held found
+      (same ∙ map-append (λ frames. shown credits (pass frames)) (frames_of m.outcome) (kept_frames made))
       one put.0.reach one.outcome refl put.0.outcome in
-      let rest = told-audits opened parts (left_after made.outcome found) told are.1 step.left put.1 in
+      let rest = told-audits opened made (left_after m.outcome found) told are.1 step.left put.1 in
       record {
         audited = step.audited ∷ rest.audited;
         audits = (step.audits, rest.audits);
@@ -187,10 +185,42 @@ module _ (credits : Bool) (capture : List ℕ) (packets : List Packet) where
         orderly = All-cons (λ (one : Told). HasOrderlyOutcome one.outcome) one told step.orderly rest.orderly;
       }
 
-  pub found-audits : (opened : List Connection) (parts : List (Part Told)) (told : List Told)
-      → AreToldFlows credits capture packets opened parts → AreFound credits parts told
+  pub found-audits : (opened : List Connection) (made told : List Told)
+      → AreToldFlows credits capture packets opened made → AreFound credits made told
       → AreToldAudits credits capture packets opened told
-  found-audits opened parts told are found = told-audits opened parts found.found told are found.are found.put
+  found-audits opened made told are found = told-audits opened made found.found told are found.are found.put
+
+-- what is told is the outcome that it has, where no frame is left to be audited
+with-none : (o : Outcome) → frames_of o ≡ [] → IsOutcomeWith o [] o
+with-none (Audited audited) none = absurd cc
+with-none _ none = refl
+
+none-left : (o : Outcome) → left_after o [] ≡ []
+none-left (Audited audited) = refl
+none-left _ = refl
+
+abbrev IsWhole : Told → Type 0
+IsWhole told = frames_of told.outcome ≡ []
+
+none-kept : (told : List Told) → All IsWhole told → kept_frames told ≡ []
+none-kept [] all = refl
+none-kept (one ∷ told) all =
+    rw (All-head IsWhole one told all) (none-kept told (All-tail IsWhole one told all))
+
+all-with-none : (told : List Told) → All IsWhole told → AreToldWith told [] told
+all-with-none [] all = refl
+all-with-none (one ∷ told) all = (
+  record { reach = refl; outcome = with-none one.outcome (All-head IsWhole one told all) },
+  rw (none-left one.outcome) (all-with-none told (All-tail IsWhole one told all)),
+)
+
+-- so nothing is found in frames that are kept, where none are
+pub whole-found : (credits : Bool) (told : List Told) → All IsWhole told → AreFound credits told told
+whole-found credits told all = record {
+  found = [];
+  are = sym (ap (map (λ frames. shown credits (pass frames))) (none-kept told all));
+  put = all-with-none told all;
+}
 
 abbrev IsOrderlyTold : Told → Type 0
 IsOrderlyTold told = HasOrderlyOutcome told.outcome
@@ -203,19 +233,17 @@ with-orderly (Audited made) found (Audited told) orderly is =
 with-orderly (Audited made) found _ orderly is = absurd is
 with-orderly made found outcome orderly is = subst HasOrderlyOutcome (sym is) orderly
 
--- there is here much told here there are parts, and their frames are orderly
-pub all-fit : (parts : List (Part Told)) (found : List Findings) (told : List Told)
-    → All (λ (part : Part Told). IsOrderlyTold part.made) parts → AreToldWith parts found told
-    → (length told ≡ length parts) × All IsOrderlyTold told
+-- as much is told of all as was before, and their frames are orderly
+pub all-fit : (made : List Told) (found : List Findings) (told : List Told) → All IsOrderlyTold made
+    → AreToldWith made found told → (length told ≡ length made) × All IsOrderlyTold told
 all-fit [] found told all put = subst (λ (l : List Told). (length l ≡ 0) × All IsOrderlyTold l) (sym put)
     (refl, All-nil IsOrderlyTold)
-all-fit (p ∷ parts) found [] all put = absurd put
-all-fit (p ∷ parts) found (one ∷ told) all put =
-    let IsOrderlyPart = λ (part : Part Told). IsOrderlyTold part.made in
-    let rest = all-fit parts (left_after p.made.outcome found) told (All-tail IsOrderlyPart p parts all) put.1 in (
+all-fit (m ∷ made) found [] all put = absurd put
+all-fit (m ∷ made) found (one ∷ told) all put =
+    let rest = all-fit made (left_after m.outcome found) told (All-tail IsOrderlyTold m made all) put.1 in (
       omega (arith, rest.0),
-      All-cons IsOrderlyTold one told (with-orderly p.made.outcome found one.outcome
-          (All-head IsOrderlyPart p parts all) put.0.outcome) rest.1,
+      All-cons IsOrderlyTold one told (with-orderly m.outcome found one.outcome
+          (All-head IsOrderlyTold m made all) put.0.outcome) rest.1,
     )
 
 -- a list of no length
@@ -223,11 +251,11 @@ pub nothing : {X : Type 0} (xs : List X) → length xs ≡ 0 → xs ≡ []
 nothing [] none = refl
 nothing (x ∷ xs) none = absurd (omega arith)
 
--- what is told of one part more
-pub with-more : (part : Part Told) (parts : List (Part Told)) (found : List Findings) (one : Told) (told : List Told)
-    → IsToldWith part.made found one → AreToldWith parts (left_after part.made.outcome found) told
-    → AreToldWith (part ∷ parts) found (one ∷ told)
-with-more part parts found one told first rest = (first, rest)
+-- what is told of one more
+pub with-more : (first : Told) (made : List Told) (found : List Findings) (one : Told) (told : List Told)
+    → IsToldWith first found one → AreToldWith made (left_after first.outcome found) told
+    → AreToldWith (first ∷ made) found (one ∷ told)
+with-more first made found one told with_them rest = (with_them, rest)
 
 any-append : (f : Finding → Bool) (xs ys : List Finding) → list_any f xs || list_any f ys ≡ list_any f (xs ++ ys)
 any-append f [] ys = refl

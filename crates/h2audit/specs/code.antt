@@ -1,6 +1,7 @@
 pub mod Reading
 pub mod Writing
 pub mod Flows
+pub mod Listed
 pub mod Met
 pub mod KeptFrames
 pub mod Headings

@@ -1,35 +1,32 @@
-ghost use Rattle.std.specs.Prelude.{◌≡◌, ℕ, ◌<◌, ◌^◌, ◌⊎◌, All, IfOk, IfErr, IsOk, List, None, Ok, Err, false, length};
+ghost use Rattle.std.specs.Prelude.{◌≡◌, ◌⊎◌, ℕ, false, IfOk, IfErr, IsOk, List, None, Ok, Err};
+ghost use Rattle.packet_heads.specs.code.Walk.{HasMet};
 ghost use Rattle.pcap_records.specs.Refusal.{refusal};
-ghost use Rattle.packet_heads.specs.code.Walk.{AreInOrder, ArePacketsOf, packets_in};
-ghost use Rattle.tcp_streams.specs.Membership.{AreConnections, strays_of};
-ghost use Rattle.tcp_streams.specs.code.Orderly.{AreMembers};
-ghost use Rattle.tcp_streams.specs.code.Walk.{IsConnectionWalkIn};
-ghost use Rattle.h2audit.specs.Report.{IsNoReport, IsReport};
-ghost use Rattle.h2audit.specs.code.Flows.{AreSources, AreToldFlows};
-ghost use Rattle.h2audit.specs.code.Met.{IsMetEnd};
+ghost use Rattle.quiet_pass.specs.code.FoundFlows.{HasMetSent};
 ghost use Rattle.report_pages.specs.code.Sections.{AreHeaded};
-ghost use Rattle.report_pages.specs.code.Told.{HasOrderlyOutcome};
-ghost use Rattle.h2audit.specs.code.Writing.{AreLinesOf, AreTold, IsToldBehind};
-ghost use Rattle.report_pages.specs.declared.told.Told.{Told as ToldTerm};
-ghost use Rattle.stop_desk.specs.declared.parts.Part.{Part as PartTerm};
+ghost use Rattle.h2audit.specs.Report.{IsNoReport, IsReport};
+ghost use Rattle.h2audit.specs.code.Listed.{HasListed};
+ghost use Rattle.h2audit.specs.code.Met.{HasMetPackets, IsMetEnd};
+ghost use Rattle.h2audit.specs.code.Writing.{IsToldBehind};
 
 use crate::command_line::Options;
-use crate::each_connection::{audit_each, flows_each};
+use crate::each_connection::{audit_each, told_each};
 use crate::fault::AuditFault;
-use crate::headings::headings_of;
+use crate::found_connections::report_of_found;
+use crate::listed_connections::{ListedConnection, held_of_each};
 use crate::met_captures::MetCapture;
 use crate::verdict::{Verdict, verdict_on};
-use audit_report::{SectionHeading, capture_lines};
+use audit_report::SectionHeading;
 use audit_rounds::Division;
 use input_output::{Capture, TableHash};
-use packet_heads::{CapturePackets, PacketWalk, Packets};
+use packet_heads::PacketWalk;
 use pcap_records::PcapFault;
+use quiet_pass::ConnectionFindings;
 use report_pages::{Report, Told};
 use std::alloc::{AllocError, Global};
 use std::random::RandomSource;
 use std::thread::Threads;
-use stop_desk::{Gate, Part, Team};
-use tcp_streams::{Connection, ConnectionWalk, Connections, Stray};
+use stop_desk::{Gate, Team};
+use tcp_streams::ConnectionVisitor;
 
 /// The report of a capture, and its verdict.
 ///
@@ -45,62 +42,123 @@ pub fn audit(
         (λ r. IsReport capture.now options.now.frames_shown r.0.items r.1) }
     ensures refused { IfErr result (λ e. IsNoReport capture.now e) }
 {
+    let hash = TableHash::drawn(rt);
     if options.audits_as_read() {
-        return audit_as_read(rt, alloc, capture);
+        let ended = meet_all(alloc, hash, capture)?;
+        return in_bytes(rt, alloc, report_found(alloc, ended));
     }
-    // A refusal takes no memory, so it comes before the chunks.
-    match ConnectionWalk::begin(alloc, TableHash::drawn(rt), capture) {
-        Ok(walk) => match Capture::of_slice(alloc, capture) {
-            Ok(chunks) => {
-                let team = team_of(rt, alloc, options, gate);
-                in_bytes(rt, alloc, audit_chunks(&team, options, walk, &chunks))
-            }
-            Err(_) => Err(AuditFault::OutOfMemory),
-        },
-        Err(refusal) => Err(AuditFault::Pcap(refusal)),
-    }
+    let ended = meet_all(alloc, hash, capture)?;
+    let team = team_of(rt, alloc, options, gate);
+    in_bytes(rt, alloc, report_listed(&team, options, hash, ended))
 }
 
-/// The report of a capture, without credits, and its verdict, by a walk that keeps no packet.
-fn audit_as_read(
-    rt: &(impl Threads + Sync + RandomSource),
+/// What the packets of a capture made of a visitor, and the number of its cut record.
+fn meet_all<V: ConnectionVisitor>(
     alloc: Global,
+    hash: TableHash,
     capture: &[u8],
-) -> Result<(Vec<u8>, Verdict), AuditFault>
-    ensures report { IfOk result (λ r. IsReport capture.now false r.0.items r.1) }
+) -> Result<Result<(MetCapture<V>, Option<u32>), PcapFault>, AuditFault>
+    ensures met { IfOk result (IsMetEnd V.after capture.now) }
     ensures refused { IfErr result (λ e. IsNoReport capture.now e) }
 {
-    let met = MetCapture::new(alloc, TableHash::drawn(rt));
-    match PacketWalk::begin(alloc, capture, met) {
+    // A refusal takes no memory, so it comes before the chunks.
+    match PacketWalk::begin(alloc, capture, MetCapture::new(alloc, hash)) {
         Ok(walk) => match Capture::of_slice(alloc, capture) {
-            Ok(chunks) => {
-                let ended = walk.finish(alloc, &chunks);
-                in_bytes(rt, alloc, report_met(alloc, ended))
-            }
+            Ok(chunks) => Ok(walk.finish(alloc, &chunks)),
             Err(_) => Err(AuditFault::OutOfMemory),
         },
         Err(refusal) => Err(AuditFault::Pcap(refusal)),
     }
 }
 
-/// The report of a capture whose packets were met as they came, and its verdict.
-pub(crate) fn report_met(
+/// The report of a capture whose packets were met as they came, and its verdict, without credits.
+pub(crate) fn report_found(
     alloc: Global,
-    ended: Result<(MetCapture, Option<u32>), PcapFault>,
+    ended: Result<(MetCapture<ConnectionFindings>, Option<u32>), PcapFault>,
 ) -> Result<(Report, Verdict), AuditFault>
-    requires { (capture : List ℕ) × IsMetEnd capture ended }
-    ensures report { (capture : List ℕ) → IsMetEnd capture ended
+    requires { (capture : List ℕ) × IsMetEnd HasMetSent capture ended }
+    ensures report { (capture : List ℕ) → IsMetEnd HasMetSent capture ended
         → IfOk result (λ r. IsReport capture false r.0 r.1) }
-    ensures refused { (capture : List ℕ) → IsMetEnd capture ended → IfErr result (λ e. IsNoReport capture e) }
+    ensures refused { (capture : List ℕ) → IsMetEnd HasMetSent capture ended
+        → IfErr result (λ e. IsNoReport capture e) }
 {
     match ended {
-        Ok((met, cut)) => match met.report(alloc, cut) {
+        Ok((met, cut)) => match report_of_found(alloc, met, cut) {
             Ok(answer) => Ok(answer),
             Err(_) => Err(AuditFault::OutOfMemory),
         },
         Err(PcapFault::OutOfMemory) => Err(AuditFault::OutOfMemory),
         Err(refusal) => Err(AuditFault::Pcap(refusal)),
     }
+}
+
+/// The report of a capture whose frames were kept as they came, and its verdict. Tables have this hash.
+pub(crate) fn report_listed<R: Threads + Sync, G: Gate>(
+    team: &Team<'_, R, G>,
+    options: &Options,
+    hash: TableHash,
+    ended: Result<(MetCapture<ListedConnection>, Option<u32>), PcapFault>,
+) -> Result<(Report, Verdict), AuditFault>
+    requires { (capture : List ℕ) × IsMetEnd HasListed capture ended }
+    ensures report { (capture : List ℕ) → IsMetEnd HasListed capture ended
+        → IfOk result (λ r. IsReport capture options.now.frames_shown r.0 r.1) }
+    ensures refused { (capture : List ℕ) → IsMetEnd HasListed capture ended
+        → IfErr result (λ e. IsNoReport capture e) }
+{
+    // `--frames` asks for credit lines.
+    let frames_shown = options.frames_shown();
+    let division = Division {
+        groups: options.groups(),
+        block: options.block(),
+        undivided: undivided(options),
+        hash,
+        frames_shown,
+    };
+    match ended {
+        Ok((met, cut)) => match report_of_listed(team, &division, met, cut) {
+            Ok(answer) => Ok(answer),
+            Err(_) => Err(AuditFault::OutOfMemory),
+        },
+        Err(PcapFault::OutOfMemory) => Err(AuditFault::OutOfMemory),
+        Err(refusal) => Err(AuditFault::Pcap(refusal)),
+    }
+}
+
+/// A connection of no more frames than so many is not divided: one worker divides none, and several none that is one
+/// block.
+fn undivided(options: &Options) -> usize {
+    if options.workers() == 1 {
+        usize::MAX
+    } else {
+        options.block() as usize
+    }
+}
+
+/// The report of a capture all of whose packets came, and its verdict. The record of this number is cut.
+fn report_of_listed<R: Threads + Sync, G: Gate>(
+    team: &Team<'_, R, G>,
+    division: &Division,
+    met: MetCapture<ListedConnection>,
+    cut: Option<u32>,
+) -> Result<(Report, Verdict), AllocError>
+    requires { (capture : List ℕ) × HasMet (HasMetPackets HasListed) capture met cut }
+    ensures { (capture : List ℕ) → refusal capture ≡ None → HasMet (HasMetPackets HasListed) capture met cut
+        → IfOk result (λ r. IsReport capture division.now.frames_shown r.0 r.1) }
+{
+    let MetCapture { lines, connections } = met;
+    let (opened, strays) = connections.into_parts();
+    let lines = lines.finish(cut, strays)?;
+    let (headings, held) = held_of_each(team.alloc, opened)?;
+    let made = told_each(team, division, held)?;
+    let told = audit_each(team, division, made)?;
+    report_of(
+        team.alloc,
+        team.workers,
+        division.frames_shown,
+        lines,
+        headings,
+        told,
+    )
 }
 
 /// The text of a report, in memory as a whole, and its verdict.
@@ -134,109 +192,6 @@ pub(crate) fn team_of<'a, R: Threads + Sync, G: Gate>(
     }
 }
 
-/// The report of a capture that is held in chunks, and its verdict. The walk took in a front of the capture.
-pub(crate) fn audit_chunks<R: Threads + Sync, G: Gate>(
-    team: &Team<'_, R, G>,
-    options: &Options,
-    walk: ConnectionWalk,
-    capture: &Capture<'_>,
-) -> Result<(Report, Verdict), AuditFault>
-    requires { IsConnectionWalkIn capture.now walk }
-    ensures report { IfOk result (λ r. IsReport capture.now options.now.frames_shown r.0 r.1) }
-    ensures refused { IfErr result (λ e. IsNoReport capture.now e) }
-{
-    let hash = walk.hash();
-    match walk.finish(team.alloc, capture) {
-        Ok((found, connections)) => {
-            match audit_records(team, options, hash, found, connections, capture) {
-                Ok(answer) => Ok(answer),
-                Err(_) => Err(AuditFault::OutOfMemory),
-            }
-        }
-        Err(PcapFault::OutOfMemory) => Err(AuditFault::OutOfMemory),
-        Err(refusal) => Err(AuditFault::Pcap(refusal)),
-    }
-}
-
-/// The report of a capture with these packets and connections, and its verdict. Tables have this hash.
-fn audit_records<R: Threads + Sync, G: Gate>(
-    team: &Team<'_, R, G>,
-    options: &Options,
-    hash: TableHash,
-    found: CapturePackets,
-    connections: Connections,
-    capture: &Capture<'_>,
-) -> Result<(Report, Verdict), AllocError>
-    requires size { length capture.now < 2 ^ 31 }
-    requires taken { refusal capture.now ≡ None }
-    requires packets { ArePacketsOf capture.now found }
-    requires order { AreInOrder (length capture.now) (packets_in found) }
-    requires opened { AreConnections (packets_in found) connections.opened.items }
-    requires strays { connections.strays.items ≡ strays_of (packets_in found) }
-    requires members { All (λ c. AreMembers 0 (packets_in found) c.members.items) connections.opened.items }
-    ensures { IfOk result (λ r. IsReport capture.now options.now.frames_shown r.0 r.1) }
-{
-    // `--frames` asks for credit lines.
-    let frames_shown = options.frames_shown();
-    let undivided = undivided(options);
-    let Connections { opened, strays } = connections;
-    // From here on packets and strays are freed: frames may take their memory.
-    let (lines, parts) = lines_and_flows(
-        team,
-        frames_shown,
-        undivided,
-        capture,
-        found,
-        strays,
-        opened.as_slice(),
-    )?;
-    // So are lists of members.
-    let headings = headings_of(team.alloc, opened)?;
-    let division = Division {
-        groups: options.groups(),
-        block: options.block(),
-        undivided,
-        hash,
-        frames_shown,
-    };
-    report_parts(team, &division, lines, headings, parts)
-}
-
-/// A connection of no more frames than so many is not divided: one worker divides none, and several none that is one
-/// block.
-fn undivided(options: &Options) -> usize {
-    if options.workers() == 1 {
-        usize::MAX
-    } else {
-        options.block() as usize
-    }
-}
-
-/// The report of connections, behind the lines of the capture, and its verdict. Of each these parts tell what its flows
-/// hold.
-fn report_parts<R: Threads + Sync, G: Gate>(
-    team: &Team<'_, R, G>,
-    division: &Division,
-    lines: Vec<u8>,
-    headings: Vec<SectionHeading>,
-    parts: Vec<Part<Told>>,
-) -> Result<(Report, Verdict), AllocError>
-    requires each { length parts.items ≡ length headings.items }
-    requires few { length headings.items < 2 ^ 32 }
-    requires orderly { All (λ (part : PartTerm ToldTerm). HasOrderlyOutcome part.made.outcome) parts.items }
-    ensures { IfOk result (λ r. AreTold division.now.frames_shown lines.items headings.items parts.items r.0 r.1) }
-{
-    let told = audit_each(team, division, parts)?;
-    report_of(
-        team.alloc,
-        team.workers,
-        division.frames_shown,
-        lines,
-        headings,
-        told,
-    )
-}
-
 /// The report of connections of which this is told, behind the lines of the capture, and its verdict. So many workers
 /// spell it.
 pub(crate) fn report_of(
@@ -253,40 +208,4 @@ pub(crate) fn report_of(
     let verdict = verdict_on(told.as_slice());
     let report = Report::new(alloc, workers, frames_shown, lines, headings, told)?;
     Ok((report, verdict))
-}
-
-/// The lines of a capture, and what the flows of its connections hold. It frees packets and strays.
-fn lines_and_flows<R: Threads + Sync, G: Gate>(
-    team: &Team<'_, R, G>,
-    frames_shown: bool,
-    undivided: usize,
-    capture: &Capture<'_>,
-    found: CapturePackets,
-    strays: Vec<Stray>,
-    opened: &[Connection],
-) -> Result<(Vec<u8>, Vec<Part<Told>>), AllocError>
-    requires few { length opened.now < 2 ^ 32 }
-    requires sources { All (AreSources capture.now (packets_in found)) opened.now }
-    ensures lines { IfOk result (λ r. AreLinesOf (packets_in found) found.cut strays.items r.0.items) }
-    ensures flows { IfOk result (λ r. AreToldFlows frames_shown capture.now (packets_in found) opened.now r.1.items) }
-{
-    let packets = Packets::of(team.alloc, &found.packets)?;
-    let lines = capture_lines(team.alloc, found.cut, &packets, strays)?;
-    with_flows(
-        lines,
-        flows_each(team, frames_shown, undivided, capture, &packets, opened),
-    )
-}
-
-/// The lines, and the flows where there are some.
-fn with_flows(
-    lines: Vec<u8>,
-    flows: Result<Vec<Part<Told>>, AllocError>,
-) -> Result<(Vec<u8>, Vec<Part<Told>>), AllocError>
-    ensures { IfOk result (λ r. (r.0 ≡ lines) × (flows ≡ Ok r.1)) }
-{
-    match flows {
-        Ok(parts) => Ok((lines, parts)),
-        Err(error) => Err(error),
-    }
 }

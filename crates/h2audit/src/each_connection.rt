@@ -1,9 +1,10 @@
-//! The audits of all connections of a capture: their flows, what these hold, and what is found in the frames.
+//! The audits of all connections of a capture: what their flows hold, and what is found in the frames.
 
-ghost use Rattle.std.specs.Prelude.{◌≡◌, ◌<◌, ◌^◌, All, IfOk, length, map};
+ghost use Rattle.std.specs.Prelude.{◌≡◌, ◌<◌, ◌^◌, ◌∷◌, All, Bool, IfOk, List, length, map};
 ghost use Rattle.std.specs.Vec.Iter.{into_iter_items};
-ghost use Rattle.stop_desk.specs.declared.parts.Part.{Part};
-ghost use Rattle.h2audit.specs.code.Flows.{AreSources, AreToldFlows};
+ghost use Rattle.h2audit.specs.code.Flows.{AreMadeOf, AreToldHeld, IsMadeOf, IsToldHeld};
+ghost use Rattle.h2audit.specs.code.Listed.{HasFlows};
+ghost use Rattle.h2audit.specs.declared.listed_connections.HeldFlows.{HeldFlows as HeldTerm};
 ghost use Rattle.audit_terms.specs.code.runs.Orderly.{IsOrderly};
 ghost use Rattle.std.specs.Bool.{Decides};
 ghost use Rattle.std.specs.List.{flat_map};
@@ -12,88 +13,140 @@ ghost use Rattle.h2audit.specs.code.KeptFrames.{AreFound, AreToldWith, IsOutcome
 ghost use Rattle.h2audit.specs.code.KeptFrames.{left_after};
 ghost use Rattle.report_pages.specs.declared.told.Outcome.{Outcome as OutcomeTerm};
 ghost use Rattle.report_pages.specs.code.Told.{HasOrderlyOutcome};
-ghost use Rattle.report_pages.specs.declared.told.Told.{Told};
+ghost use Rattle.report_pages.specs.declared.told.Told.{Told as ToldTerm};
 
-use crate::flow_round::FlowRound;
+use crate::flow_round::{FlowRound, outcome_in};
+use crate::listed_connections::HeldFlows;
 use audit_report::stall_pairs;
 use audit_rounds::{Division, findings_of_each};
 use audit_terms::{Finding, Frame, Place};
-use input_output::Capture;
-use packet_heads::Packets;
 use report_pages::{AuditedFrames, Outcome, Told};
 use split_merge::Findings;
 use std::alloc::{AllocError, Global};
 use std::thread::Threads;
 use std::vec::IntoIter;
 use stop_desk::{AuditRound, Gate, Part, Team, settle};
-use tcp_streams::Connection;
 
-/// The least average of packets per connection at which workers share the connections out. With mere openings it takes
+/// The least average of frames per connection at which workers share the connections out. With mere openings it takes
 /// longer to share such jobs out, and to sort what they made, than to do them: measured, several workers took a fifth
 /// longer than one.
-const SHARED_PACKETS_PER_CONNECTION: usize = 4;
+const SHARED_FRAMES_PER_CONNECTION: usize = 2;
 
-/// What the flows of each connection hold, in order.
-pub(crate) fn flows_each<R: Threads + Sync, G: Gate>(
+/// What is told of each connection whose flows are held, in order, with nothing found yet where all frames are kept.
+pub(crate) fn told_each<R: Threads + Sync, G: Gate>(
     team: &Team<'_, R, G>,
-    frames_shown: bool,
-    undivided: usize,
-    capture: &Capture<'_>,
-    packets: &Packets<'_>,
-    opened: &[Connection],
-) -> Result<Vec<Part<Told>>, AllocError>
-    requires few { length opened.now < 2 ^ 32 }
-    requires sources { All (AreSources capture.now packets.now) opened.now }
-    ensures { IfOk result (λ parts. AreToldFlows frames_shown capture.now packets.now opened.now parts.items) }
+    division: &Division,
+    held: Vec<HeldFlows>,
+) -> Result<Vec<Told>, AllocError>
+    requires few { length held.items < 2 ^ 32 }
+    requires flows { All HasFlows held.items }
+    ensures { IfOk result (λ told. AreToldHeld division.now.frames_shown held.items told.items) }
+{
+    let parts = flows_each(team, division, held.as_slice())?;
+    all_with_outcomes(team.alloc, held, parts)
+}
+
+/// What is shown of each connection, where that is told at once.
+fn flows_each<R: Threads + Sync, G: Gate>(
+    team: &Team<'_, R, G>,
+    division: &Division,
+    held: &[HeldFlows],
+) -> Result<Vec<Part<Option<Outcome>>>, AllocError>
+    requires few { length held.now < 2 ^ 32 }
+    requires flows { All HasFlows held.now }
+    ensures { IfOk result (λ parts. AreMadeOf division.now.frames_shown held.now parts.items) }
 {
     let mut stops: Vec<Option<Place>> = Vec::new(team.alloc);
-    stops.resize(opened.len(), None)?;
+    stops.resize(held.len(), None)?;
     let round = FlowRound {
-        rt: team.rt,
-        threads: team.workers as usize / opened.len().max(1),
-        frames_shown,
-        undivided,
-        capture,
-        packets,
-        opened,
+        frames_shown: division.frames_shown,
+        undivided: division.undivided,
+        held,
     };
-    let team = team.with_workers(sharers(team.workers, packets.len(), opened.len()));
+    let team = team.with_workers(sharers(team.workers, held));
     let settled = settle(&team, AuditRound::Flows, stops.as_slice(), &round)?;
     Ok(settled.parts)
 }
 
-/// How many of the workers share out so many connections with so many packets.
-fn sharers(workers: u32, packets: usize, opened: usize) -> u32
+/// How many of the workers share out connections whose flows hold this.
+fn sharers(workers: u32, held: &[HeldFlows]) -> u32
     requires { 0 < workers }
     ensures { 0 < result }
 {
-    let is_worth = opened <= packets / SHARED_PACKETS_PER_CONNECTION;
+    let mut frames = 0usize;
+    for one in held {
+        frames = frames.saturating_add(one.frames());
+    }
+    let is_worth = held.len() <= frames / SHARED_FRAMES_PER_CONNECTION;
     if is_worth { workers } else { 1 }
+}
+
+/// What is told of each connection: what is told at once, or what its flows hold.
+fn all_with_outcomes(
+    alloc: Global,
+    held: Vec<HeldFlows>,
+    parts: Vec<Part<Option<Outcome>>>,
+) -> Result<Vec<Told>, AllocError>
+    requires { (frames_shown : Bool) × AreMadeOf frames_shown held.items parts.items }
+    ensures { (frames_shown : Bool) → AreMadeOf frames_shown held.items parts.items
+        → IfOk result (λ told. AreToldHeld frames_shown held.items told.items) }
+{
+    let mut all = Vec::with_capacity(alloc, held.len())?;
+    let mut rest = parts.into_iter();
+    for one in held {
+        let made = next_made(&mut rest);
+        all.push(with_outcome(alloc, one, made)?)?;
+    }
+    Ok(all)
+}
+
+/// What is told at once of the next connection, if it is.
+fn next_made(parts: &mut IntoIter<Part<Option<Outcome>>>) -> Option<Outcome>
+    ensures { (frames_shown : Bool) (held : HeldTerm) (later : List HeldTerm)
+        → AreMadeOf frames_shown (held ∷ later) (into_iter_items parts.old)
+        → IsMadeOf frames_shown held result × AreMadeOf frames_shown later (into_iter_items parts.new) }
+{
+    let part = parts.next()?;
+    part.made
+}
+
+/// What is told of a connection: what is told at once, or what its flows hold.
+fn with_outcome(alloc: Global, held: HeldFlows, made: Option<Outcome>) -> Result<Told, AllocError>
+    requires { (frames_shown : Bool) × IsMadeOf frames_shown held made }
+    ensures { (frames_shown : Bool) → IsMadeOf frames_shown held made
+        → IfOk result (IsToldHeld frames_shown held) }
+{
+    let HeldFlows { reach, cut } = held;
+    let outcome = match made {
+        Some(outcome) => outcome,
+        None => outcome_in(alloc, cut)?,
+    };
+    Ok(Told { reach, outcome })
 }
 
 /// What is told of each connection, in order: what its flows hold, with what is found where all frames are kept.
 pub(crate) fn audit_each<R: Threads + Sync, G: Gate>(
     team: &Team<'_, R, G>,
     division: &Division,
-    parts: Vec<Part<Told>>,
+    told: Vec<Told>,
 ) -> Result<Vec<Told>, AllocError>
-    requires { All (λ (part : Part Told). HasOrderlyOutcome part.made.outcome) parts.items }
-    ensures { IfOk result (λ told. AreFound division.now.frames_shown parts.items told.items) }
+    requires { All (λ (one : ToldTerm). HasOrderlyOutcome one.outcome) told.items }
+    ensures { IfOk result (λ all. AreFound division.now.frames_shown told.items all.items) }
 {
     let found = {
-        let kept = kept_frames(team.alloc, parts.as_slice())?;
+        let kept = kept_frames(team.alloc, told.as_slice())?;
         findings_of_each(team, division, kept.as_slice())?
     };
-    all_with_findings(team.alloc, parts, found)
+    all_with_findings(team.alloc, told, found)
 }
 
 /// All frames of each connection of which they are kept.
-fn kept_frames<'a>(alloc: Global, parts: &'a [Part<Told>]) -> Result<Vec<&'a [Frame]>, AllocError>
-    ensures { IfOk result (λ kept. map (λ frames. frames.now) kept.items ≡ kept_frames parts.now) }
+fn kept_frames<'a>(alloc: Global, told: &'a [Told]) -> Result<Vec<&'a [Frame]>, AllocError>
+    ensures { IfOk result (λ kept. map (λ frames. frames.now) kept.items ≡ kept_frames told.now) }
 {
     let mut kept = Vec::new(alloc);
-    for part in parts {
-        if let Outcome::Audited(audited) = &part.made.outcome {
+    for one in told {
+        if let Outcome::Audited(audited) = &one.outcome {
             kept.push(audited.frames.as_slice())?;
         }
     }
@@ -103,16 +156,16 @@ fn kept_frames<'a>(alloc: Global, parts: &'a [Part<Told>]) -> Result<Vec<&'a [Fr
 /// What is told of each connection: what its flows hold, with what was found in the frames that are kept.
 fn all_with_findings(
     alloc: Global,
-    parts: Vec<Part<Told>>,
+    told: Vec<Told>,
     found: Vec<Findings>,
 ) -> Result<Vec<Told>, AllocError>
-    requires { All (λ (part : Part Told). HasOrderlyOutcome part.made.outcome) parts.items }
-    ensures { IfOk result (λ told. AreToldWith parts.items found.items told.items) }
+    requires { All (λ (one : ToldTerm). HasOrderlyOutcome one.outcome) told.items }
+    ensures { IfOk result (λ all. AreToldWith told.items found.items all.items) }
 {
-    let mut all = Vec::with_capacity(alloc, parts.len())?;
+    let mut all = Vec::with_capacity(alloc, told.len())?;
     let mut rest = found.into_iter();
-    for part in parts {
-        all.push(with_next_findings(alloc, part.made, &mut rest)?)?;
+    for one in told {
+        all.push(with_next_findings(alloc, one, &mut rest)?)?;
     }
     Ok(all)
 }

@@ -1,161 +1,63 @@
-//! The round over connections: both flows of each, and what they hold.
+//! The round over connections: what is shown of each, where that is told at once.
 
-ghost use Rattle.std.specs.Prelude.{◌≡◌, ◌<◌, false, IfOk, IfSome};
+ghost use Rattle.std.specs.Prelude.{◌≡◌, IfOk, IfSome};
 ghost use Rattle.audit_terms.specs.code.runs.Orderly.{IsOrderly};
-ghost use Rattle.audit_terms.specs.declared.sides.Side.{Side};
-ghost use Rattle.audit_terms.specs.declared.sides.Side.TheVariants.{Client, Server};
-ghost use Rattle.h2audit.specs.code.Flows.{AreSources, IsHeldBy, IsToldFlows, KeepsCut, KeepsFound};
-ghost use Rattle.tcp_streams.specs.code.Orderly.{AreFlowsOfOne};
+ghost use Rattle.h2audit.specs.code.Flows.{IsMadeOf, KeepsCut, KeepsFound};
+ghost use Rattle.h2audit.specs.code.Listed.{HasFlows};
 
+use crate::listed_connections::HeldFlows;
 use audit_report::stall_pairs;
-use audit_terms::{Look, Side};
-use h2_frames::{Cut, cut_by};
-use input_output::Capture;
-use packet_heads::Packets;
-use quiet_pass::{FoundConnection, QuietConnection, found_connection, quiet_connection};
-use report_pages::{AuditedFrames, FoundFrames, Outcome, Reach, Told};
+use audit_terms::Look;
+use h2_frames::Cut;
+use quiet_pass::{FoundConnection, QuietConnection, found_in};
+use report_pages::{AuditedFrames, FoundFrames, Outcome};
 use split_merge::Findings;
 use std::alloc::{AllocError, Global};
 use std::marker::Model;
-use std::thread::{Threads, join};
 use stop_desk::{Round, Work};
-use tcp_streams::{Connection, Flow, assemble};
-
-/// What is made for each side of a connection, by two threads (`both`). It is behind a trait, since `join` passes on no
-/// contract of a closure that holds a type with a lifetime and a model, as [`Capture`] is.
-trait ForSides: Sync {
-    type Made: Send + Drop;
-
-    ghost asks: { Self → Type 0 };
-
-    ghost makes: { Self → Side → Self.Made → Type 0 };
-
-    fn make(&self, side: Side) -> Self::Made
-        requires { Self.asks self.now }
-        ensures { Self.makes self.now side result };
-}
-
-/// What is made for both sides, each on a thread of its own if two are allowed and these can be spawned, while this one
-/// waits (docs/DECISIONS.md, D-121).
-fn both<R: Threads, S: ForSides>(rt: &R, threads: usize, sources: &S) -> (S::Made, S::Made)
-    requires { S.asks sources.now }
-    ensures client { S.makes sources.now Client result.0 }
-    ensures server { S.makes sources.now Server result.1 }
-{
-    if threads < 2 {
-        return (sources.make(Side::Client), sources.make(Side::Server));
-    }
-    let (server, client) = join(
-        rt,
-        || -> S::Made
-            requires { S.asks sources.now }
-            ensures { S.makes sources.entry.now Server result }
-        { sources.make(Side::Server) },
-        || -> S::Made
-            requires { S.asks sources.now }
-            ensures { S.makes sources.entry.now Client result }
-        { client_apart(rt, sources) },
-    );
-    (client, server)
-}
-
-/// What is made for the client's side, on a thread of its own, while this one waits.
-fn client_apart<R: Threads, S: ForSides>(rt: &R, sources: &S) -> S::Made
-    requires { S.asks sources.now }
-    ensures { S.makes sources.now Client result }
-{
-    let (client, ()) = join(
-        rt,
-        || -> S::Made
-            requires { S.asks sources.now }
-            ensures { S.makes sources.entry.now Client result }
-        { sources.make(Side::Client) },
-        || (),
-    );
-    client
-}
-
-/// Where the flows of a connection come from.
-#[derive(Drop)]
-struct Sources<'a, 'b> {
-    alloc: Global,
-    capture: &'b Capture<'a>,
-    packets: &'b Packets<'b>,
-    connection: &'b Connection,
-}
-
-impl<'a, 'b> ForSides for Sources<'a, 'b> {
-    type Made = Result<Flow<'a>, AllocError>;
-
-    ghost use Rattle.std.specs.Prelude.{IfOk};
-    ghost use Rattle.h2audit.specs.code.Flows.{AreSources, IsSideFlow};
-
-    ghost asks = { λ s. AreSources s.capture.now s.packets.now s.connection.now };
-
-    ghost makes = { λ s side made. IfOk made (IsSideFlow s.capture.now s.packets.now s.connection.now side) };
-
-    fn make(&self, side: Side) -> Result<Flow<'a>, AllocError> {
-        assemble(
-            self.alloc,
-            self.capture,
-            self.packets,
-            self.connection,
-            side,
-        )
-    }
-}
 
 /// The connections of a capture: a job for each.
 #[derive(Drop)]
-pub(crate) struct FlowRound<'a, R: Threads + Sync> {
-    pub(crate) rt: &'a R,
-    /// How many threads there are for each connection: two make its flows.
-    pub(crate) threads: usize,
-    /// Are credits shown? Then all frames are kept.
+pub(crate) struct FlowRound<'a> {
+    /// Are credits shown? Then nothing is told at once.
     pub(crate) frames_shown: bool,
     /// A connection of no more frames than so many is told at once, if something is shown of it and credits are not.
     pub(crate) undivided: usize,
-    pub(crate) capture: &'a Capture<'a>,
-    pub(crate) packets: &'a Packets<'a>,
-    pub(crate) opened: &'a [Connection],
+    pub(crate) held: &'a [HeldFlows],
 }
 
-impl<'a, R: Threads + Sync> Model for FlowRound<'a, R> {
+impl<'a> Model for FlowRound<'a> {
     ghost use Rattle.h2audit.specs.code.Flows.{FlowView, IsFlowView};
 
     ghost Value = { FlowView };
 
     ghost view = { λ r. record {
       frames_shown = r.frames_shown;
-      capture = r.capture.now;
-      packets = r.packets.now;
-      opened = r.opened.now;
+      held = r.held.now;
     } };
 
     ghost invariant = { λ r. IsFlowView (record {
       frames_shown = r.frames_shown;
-      capture = r.capture.now;
-      packets = r.packets.now;
-      opened = r.opened.now;
+      held = r.held.now;
     }) };
 }
 
-impl<R: Threads + Sync> Round for FlowRound<'_, R> {
-    type Made = Told;
+impl Round for FlowRound<'_> {
+    type Made = Option<Outcome>;
 
     ghost use Rattle.std.specs.Prelude.{◌≡◌, [], slice_get, Some};
-    ghost use Rattle.tcp_streams.specs.declared.members.Connection.{Connection};
-    ghost use Rattle.h2audit.specs.code.Flows.{IsToldFlows, flow_jobs};
+    ghost use Rattle.h2audit.specs.code.Flows.{IsMadeOf, flow_jobs};
+    ghost use Rattle.h2audit.specs.declared.listed_connections.HeldFlows.{HeldFlows};
 
-    ghost jobs = { λ s. flow_jobs s.opened };
+    ghost jobs = { λ s. flow_jobs s.held };
 
-    ghost makes = { λ s job upto made. (connection : Connection) → slice_get s.opened job ≡ Some connection
-        → IsToldFlows s.frames_shown s.capture s.packets connection made };
+    ghost makes = { λ s job upto made. (held : HeldFlows) → slice_get s.held job ≡ Some held
+        → IsMadeOf s.frames_shown held made };
 
     ghost looks = { λ s job asked upto. asked ≡ [] };
 
     fn count(&self) -> u32 {
-        self.opened.len() as u32
+        self.held.len() as u32
     }
 
     fn connection(&self, job: u32) -> usize {
@@ -167,20 +69,9 @@ impl<R: Threads + Sync> Round for FlowRound<'_, R> {
         alloc: Global,
         job: u32,
         _look: &mut L,
-    ) -> Result<Work<Told>, AllocError> {
-        let sources = Sources {
-            alloc,
-            capture: self.capture,
-            packets: self.packets,
-            connection: &self.opened[job as usize],
-        };
-        let made = told_from(
-            self.rt,
-            self.threads,
-            self.frames_shown,
-            self.undivided,
-            &sources,
-        )?;
+    ) -> Result<Work<Option<Outcome>>, AllocError> {
+        let held = &self.held[job as usize];
+        let made = outcome_at_once(alloc, self.frames_shown, self.undivided, held)?;
         Ok(Work {
             findings: Vec::new(alloc),
             upto: None,
@@ -189,98 +80,27 @@ impl<R: Threads + Sync> Round for FlowRound<'_, R> {
     }
 }
 
-/// Flows of so many segments or more are made by two threads.
-///
-/// Measured, a segment takes 35 ns, and it takes 50 to 70 µs to start a thread and join it.
-const LONG_SEGMENTS: usize = 1 << 14;
-
-/// How many of the threads there are for a connection make its flows.
-fn flow_threads(threads: usize, connection: &Connection) -> usize {
-    if connection.members.len() < LONG_SEGMENTS {
-        1
-    } else {
-        threads
-    }
-}
-
-/// What is told of a connection, with nothing found yet where all frames are kept. Two threads make its flows, where
-/// there are as many and the flows are long.
-fn told_from<R: Threads>(
-    rt: &R,
-    threads: usize,
+/// What is shown of a connection, if it is told at once: where credits are not shown, and nothing is shown or there are
+/// few frames.
+fn outcome_at_once(
+    alloc: Global,
     frames_shown: bool,
     undivided: usize,
-    sources: &Sources<'_, '_>,
-) -> Result<Told, AllocError>
-    requires { AreSources sources.now.capture.now sources.now.packets.now sources.now.connection.now }
-    ensures { IfOk result (IsToldFlows frames_shown sources.now.capture.now sources.now.packets.now
-        sources.now.connection.now) }
-{
-    let (client, server) = both(rt, flow_threads(threads, sources.connection), sources);
-    let client = client?;
-    let server = server?;
-    // The report needs only the reach of the flows.
-    let reach = Reach::of_both(&client, &server);
-    match outcome_of(
-        rt,
-        sources.alloc,
-        threads,
-        frames_shown,
-        undivided,
-        &client,
-        &server,
-    ) {
-        Ok(outcome) => Ok(Told { reach, outcome }),
-        Err(error) => Err(error),
-    }
-}
-
-/// What the flows of one connection hold. If credits are not shown, frames are met one by one first; where this tells
-/// all, no list of them is made. Else nothing is found yet.
-fn outcome_of<R: Threads>(
-    rt: &R,
-    alloc: Global,
-    threads: usize,
-    frames_shown: bool,
-    undivided: usize,
-    client: &Flow,
-    server: &Flow,
-) -> Result<Outcome, AllocError>
-    requires { AreFlowsOfOne client.now server.now }
-    ensures { IfOk result (IsHeldBy frames_shown client.now server.now) }
-{
-    if !frames_shown {
-        if let Some(outcome) = outcome_met(rt, alloc, threads, undivided, client, server)? {
-            return Ok(outcome);
-        }
-    }
-    let cut = cut_by(rt, alloc, threads, client, server)?;
-    outcome_in(alloc, cut)
-}
-
-/// What the flows of one connection hold, where credits are not shown, if it is told at once: nothing is shown, or the
-/// frames are few. With two threads or more, which go over long flows in batches, only the former.
-fn outcome_met<R: Threads>(
-    rt: &R,
-    alloc: Global,
-    threads: usize,
-    undivided: usize,
-    client: &Flow,
-    server: &Flow,
+    held: &HeldFlows,
 ) -> Result<Option<Outcome>, AllocError>
-    requires { AreFlowsOfOne client.now server.now }
-    ensures { IfOk result (λ met. IfSome met (IsHeldBy false client.now server.now)) }
+    requires { HasFlows held.now }
+    ensures { IfOk result (IsMadeOf frames_shown held.now) }
 {
-    if 2 <= threads {
-        return match quiet_connection(rt, alloc, threads, client, server)? {
-            Some(quiet) => Ok(Some(Outcome::Quiet(quiet))),
-            None => Ok(None),
-        };
+    if frames_shown {
+        return Ok(None);
     }
-    match found_connection(alloc, undivided, client, server)? {
-        Some(found) => Ok(Some(outcome_found(alloc, found)?)),
-        None => Ok(None),
-    }
+    let Cut::Http2 { frames, tails } = &held.cut else {
+        return Ok(None);
+    };
+    let Some(found) = found_in(alloc, undivided, frames.as_slice(), *tails)? else {
+        return Ok(None);
+    };
+    Ok(Some(outcome_found(alloc, found)?))
 }
 
 /// What was found of a connection, with its stalls.
@@ -313,7 +133,7 @@ pub(crate) fn outcome_found(alloc: Global, found: FoundConnection) -> Result<Out
 }
 
 /// What a cut holds, with nothing found yet.
-fn outcome_in(alloc: Global, cut: Cut) -> Result<Outcome, AllocError>
+pub(crate) fn outcome_in(alloc: Global, cut: Cut) -> Result<Outcome, AllocError>
     ensures { IfOk result (λ outcome. KeepsCut outcome cut) }
 {
     match cut {

@@ -14,8 +14,10 @@
 //!   only where a call failed (clause `tells`, `Tells` of `specs/Account.antt`), for every reader and writer, also of
 //!   files and pipes. Where these tell their bytes themselves, they are those of the calls (`given`, `taken`); what a
 //!   run then leaves in the writer follows ([`laws::runs_leave`], [`laws::faults_are_silent`]).
-//! - One worker who shows no credits audits a capture as it is read, 256 KiB at a time (`met_captures`): what is kept
-//!   is the file header, a record's front, what each connection waits for and has found. Else all bytes are kept.
+//! - A capture is audited as it is read, 256 KiB at a time (`met_captures`): what is kept is the file header, the front
+//!   of a record, what each connection waits for, and what it has found (`found_connections`); with several workers, or
+//!   where credits are shown, its frames (`listed_connections`), of which round 0 (`flow_round`) tells what it can at
+//!   once.
 //! - [`run_program`] is the program, over its words and what it is lent ([`Outside`]): a way to open FILE and to say a
 //!   line, and the accounts of standard input, of FILE and of standard output. It does what the words ask for and
 //!   nothing else (`Ends` of `specs/Program.antt`). [`program_words`] leaves out the program's name.
@@ -25,7 +27,7 @@
 //! - Reading stops at 2^31 bytes, which are refused as the whole is. Where the file header refuses a capture, only it
 //!   is kept (`brief`), since what follows changes no answer (`pcap_records::laws::header_refuses`).
 //! - docs/ARCHITECTURE.md follows the data all the way through the crates, and says how workers divide the work.
-//! - What is kept of a connection from its flows on is small, and has all that the text tells of its audit
+//! - What is kept of a connection in the end is small, and has all that the text tells of its audit
 //!   (`report_pages::Told`): how far the flows reach, and the number of frames where nothing is shown of them; else
 //!   what was found, the stalls, and frames: where all was found as they were met, those that findings name, else all
 //!   of them. Of all connections it is kept until the report is written.
@@ -41,8 +43,9 @@ mod command_line;
 mod each_connection;
 mod fault;
 mod flow_round;
-mod headings;
+mod found_connections;
 pub mod laws;
+mod listed_connections;
 mod met_captures;
 mod met_connections;
 mod program;

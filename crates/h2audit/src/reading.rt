@@ -2,22 +2,20 @@ ghost use Rattle.std.specs.Prelude.{◌≡◌, [], Err, IfErr, IfOk, Ok};
 ghost use Rattle.input_output.specs.Account.{IsUnread};
 ghost use Rattle.input_output.specs.code.Reading as accounted;
 ghost use Rattle.h2audit.specs.code.Met.{HasMetPackets};
-ghost use Rattle.h2audit.specs.code.Reading.{HasMetCapture, HasReadCapture, IsReadingFault};
+ghost use Rattle.h2audit.specs.code.Reading.{HasMetCapture, IsReadingFault};
 ghost use Rattle.h2audit.specs.declared.reading.FileHeader.TheVariants as header;
 
 use crate::fault::AuditFault;
 use crate::met_captures::MetCapture;
 use input_output::{
-    CaptureReader, ChunksAhead, ReadFault, TableHash, keep_and_walk, keep_up_to, pass_over,
-    walk_and_let_go,
+    CaptureReader, ChunksAhead, ReadFault, TableHash, keep_up_to, pass_over, walk_and_let_go,
 };
 use packet_heads::PacketWalk;
 use pcap_records::{FILE_HEADER, PcapFault};
 use std::alloc::Global;
 use std::io::Read;
-use std::random::RandomSource;
 use std::thread::Threads;
-use tcp_streams::ConnectionWalk;
+use tcp_streams::ConnectionVisitor;
 
 /// What the file header of a capture gives.
 #[derive(Drop)]
@@ -28,68 +26,20 @@ pub(crate) enum FileHeader<W> {
     Refused(PcapFault),
 }
 
-/// Reads to the end, or until there are 2^31 bytes, and keeps what its answer can depend on: all of it, or the file
-/// header alone where that refuses it. Returns that refusal, or a walk that has made the packets so far and found their
-/// connections, by a table whose hash is drawn here. Other workers make chunks ahead of the reads.
-pub(crate) fn read_capture<R: Read>(
-    rt: &(impl Threads + Sync + RandomSource),
-    alloc: Global,
-    workers: u32,
-    reader: &mut CaptureReader<R>,
-) -> Result<FileHeader<ConnectionWalk>, AuditFault>
-    requires { IsUnread reader.old }
-    ensures read { IfOk result (HasReadCapture (R.remaining reader.old.source.reader) reader.new) }
-    ensures err { IfErr result (λ e. IsReadingFault e reader.new) }
-{
-    let mut ahead = ChunksAhead::new(rt, alloc, workers);
-    let read = read_in_chunks(alloc, TableHash::drawn(rt), &mut ahead, reader);
-    ahead.finish();
-    match read {
-        Ok(read) => Ok(read),
-        Err(ReadFault::Failed(_)) => Err(AuditFault::Read),
-        Err(ReadFault::OutOfMemory) => Err(AuditFault::OutOfMemory),
-    }
-}
-
-/// Reads a capture into chunks that are made ahead, and returns what its file header gives.
-fn read_in_chunks<T: Threads, R: Read>(
-    alloc: Global,
-    hash: TableHash,
-    ahead: &mut ChunksAhead<'_, T>,
-    reader: &mut CaptureReader<R>,
-) -> Result<FileHeader<ConnectionWalk>, ReadFault>
-    requires { IsUnread reader.old }
-    ensures read { IfOk result (HasReadCapture (R.remaining reader.old.source.reader) reader.new) }
-    ensures err { IfErr result (λ e. accounted.IsReadingFault e reader.new) }
-{
-    keep_up_to(ahead, reader, FILE_HEADER)?;
-    let begun = ConnectionWalk::begin(alloc, hash, reader.in_one_slice());
-    if reader.has_ended() {
-        return Ok(header_by(begun));
-    }
-    match begun {
-        Ok(mut walk) => {
-            let read = keep_and_walk(ahead, reader, &mut walk);
-            behind_read(read, FileHeader::Taken(walk))
-        }
-        Err(refusal) => behind_read(pass_over(reader), FileHeader::Refused(refusal)),
-    }
-}
-
 /// Reads to the end, or until there are 2^31 bytes, and has what comes met by a walk: of the bytes nothing is kept but
 /// the file header. Returns the refusal of that, or the walk.
-pub(crate) fn read_and_let_go<R: Read>(
-    rt: &(impl Threads + Sync + RandomSource),
+pub(crate) fn read_and_let_go<T: Threads + Sync, R: Read, V: ConnectionVisitor>(
+    rt: &T,
     alloc: Global,
+    hash: TableHash,
     reader: &mut CaptureReader<R>,
-) -> Result<FileHeader<PacketWalk<MetCapture>>, AuditFault>
+) -> Result<FileHeader<PacketWalk<MetCapture<V>>>, AuditFault>
     requires { IsUnread reader.old }
-    ensures read { IfOk result (HasMetCapture (R.remaining reader.old.source.reader) reader.new) }
+    ensures read { IfOk result (HasMetCapture V.after (R.remaining reader.old.source.reader) reader.new) }
     ensures err { IfErr result (λ e. IsReadingFault e reader.new) }
 {
     let mut ahead = ChunksAhead::new(rt, alloc, 1);
-    let met = MetCapture::new(alloc, TableHash::drawn(rt));
-    let read = meet(alloc, met, &mut ahead, reader);
+    let read = meet(alloc, MetCapture::new(alloc, hash), &mut ahead, reader);
     ahead.finish();
     match read {
         Ok(read) => Ok(read),
@@ -99,15 +49,15 @@ pub(crate) fn read_and_let_go<R: Read>(
 }
 
 /// Reads a capture whose packets are met as they come, and returns what its file header gives.
-fn meet<T: Threads, R: Read>(
+fn meet<T: Threads, R: Read, V: ConnectionVisitor>(
     alloc: Global,
-    met: MetCapture,
+    met: MetCapture<V>,
     ahead: &mut ChunksAhead<'_, T>,
     reader: &mut CaptureReader<R>,
-) -> Result<FileHeader<PacketWalk<MetCapture>>, ReadFault>
+) -> Result<FileHeader<PacketWalk<MetCapture<V>>>, ReadFault>
     requires unread { IsUnread reader.old }
-    requires none { HasMetPackets [] met }
-    ensures read { IfOk result (HasMetCapture (R.remaining reader.old.source.reader) reader.new) }
+    requires none { HasMetPackets V.after [] met }
+    ensures read { IfOk result (HasMetCapture V.after (R.remaining reader.old.source.reader) reader.new) }
     ensures err { IfErr result (λ e. accounted.IsReadingFault e reader.new) }
 {
     keep_up_to(ahead, reader, FILE_HEADER)?;

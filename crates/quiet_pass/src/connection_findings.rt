@@ -56,8 +56,8 @@ impl ConnectionFindings {
     /// What all its segments tell: which kind of cut the two flows have, where they end, and what is shown.
     ///
     /// The flows, which there are (`HaveFlows`), are those that `tcp_streams::assemble` gives of a capture in which the
-    /// payloads stand (`tcp_streams::laws::flows_are_those_sent`): so it answers what [`crate::found_connection`] does
-    /// of these, without them.
+    /// payloads stand (`tcp_streams::laws::flows_are_those_sent`): so it answers what [`crate::found_in`] does of all
+    /// frames of these, without a list of them.
     pub fn finish(self, alloc: Global) -> Result<FoundFlows, AllocError>
         requires { (opening : Opening) × (sent : List Sent) × (last : ℕ) × HasMetSent opening sent last self }
         ensures found { (opening : Opening) (sent : List Sent) (last : ℕ) → HasMetSent opening sent last self

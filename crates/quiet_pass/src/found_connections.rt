@@ -1,19 +1,17 @@
 //! Connections of which little is shown: what is shown is said as frames are met, and no list of all frames is made.
 
 ghost use Rattle.std.specs.Prelude.{IfOk, IfSome, IsTrue, List};
+ghost use Rattle.audit_terms.specs.code.runs.Orderly.{IsOrderly};
 ghost use Rattle.audit_terms.specs.declared.frames.Frame.{Frame as FrameTerm};
-ghost use Rattle.h2_frames.specs.code.Walk.{IsFreshWalk};
-ghost use Rattle.quiet_pass.specs.code.FoundConnections.{AreAllFrames, IsFoundFrom, IsFoundOf};
+ghost use Rattle.h2_frames.specs.Cut.{IsHttp2};
+ghost use Rattle.quiet_pass.specs.code.FoundConnections.{AreAllFrames, IsFoundOf};
 ghost use Rattle.quiet_pass.specs.code.FoundPass.{IsFoundAfter};
-ghost use Rattle.tcp_streams.specs.code.Orderly.{AreFlowsOfOne};
 ghost use Rattle.tcp_streams.specs.declared.flows.Flow.{Flow};
 
 use crate::found_passes::FoundPass;
 use audit_core::laws::streams_are_those_met;
 use audit_terms::{Finding, Frame, Sides, cut_at_stop};
-use h2_frames::{Begun, FrameWalk, begin};
 use std::alloc::{AllocError, Global};
-use tcp_streams::Flow;
 
 /// What is shown of a connection of HTTP/2, where credits are not.
 #[derive(Drop)]
@@ -28,44 +26,30 @@ pub struct FoundConnection {
     pub shown_at: Vec<Frame>,
 }
 
-/// What a connection of HTTP/2 shows, where credits are not shown, if it shows nothing or has no more than so many
-/// frames.
+/// What these frames of a connection show, where credits are not shown, if that is nothing or they are no more than so
+/// many.
 ///
-/// Its frames are met by a machine that keeps those alone at which something is shown. There is no answer where the two
-/// flows are no HTTP/2, or where it has more frames and shows something.
-pub fn found_connection(
+/// They are met by a machine that keeps those alone at which something is shown. There is no answer where there are
+/// more of them, and one shows something.
+pub fn found_in(
     alloc: Global,
     most_frames: usize,
-    client: &Flow,
-    server: &Flow,
+    frames: &[Frame],
+    tails: Sides<u32>,
 ) -> Result<Option<FoundConnection>, AllocError>
-    requires { AreFlowsOfOne client.now server.now }
-    ensures { IfOk result (λ found. IfSome found (IsFoundOf client.now server.now)) }
+    requires { IsOrderly frames.now }
+    ensures { (client server : Flow) → IsTrue server.started → IsHttp2 client server frames.now tails
+        → IfOk result (λ found. IfSome found (IsFoundOf client server)) }
 {
-    let Begun::Http2(walk) = begin(alloc, client, server) else {
-        return Ok(None);
-    };
-    found_frame_by_frame(alloc, most_frames, walk)
-}
-
-/// What `found_connection` answers, from a walk that no frame was taken of.
-pub(crate) fn found_frame_by_frame(
-    alloc: Global,
-    most_frames: usize,
-    walk: FrameWalk<'_>,
-) -> Result<Option<FoundConnection>, AllocError>
-    requires { (client server : Flow) × IsFreshWalk client server walk }
-    ensures { IsFoundFrom walk.entry result }
-{
-    let mut walk = walk;
+    let are_many = most_frames < frames.len();
     let mut pass = FoundPass::begin(alloc);
-    while let Some(frame) = walk.take_next()? {
-        pass.meet(alloc, &frame)?;
-        if pass.has_found_past(most_frames, &frame) {
+    for frame in frames {
+        pass.meet(alloc, frame)?;
+        if are_many && pass.has_found() {
             return Ok(None);
         }
     }
-    Ok(Some(found_after(pass, walk.taken(), walk.tails())))
+    Ok(Some(found_after(pass, frames.len() as u32, tails)))
 }
 
 /// What is told of a connection of so many frames, and of these tails, whose frames were all met.

@@ -80,9 +80,9 @@ impl FoundPass {
         Ok(())
     }
 
-    /// Was something found, and is this frame past so many?
-    pub(crate) fn has_found_past(&self, most_frames: usize, frame: &Frame) -> bool {
-        most_frames < frame.number as usize && !self.found.is_empty()
+    /// Was something found?
+    pub(crate) fn has_found(&self) -> bool {
+        !self.found.is_empty()
     }
 
     /// Meets a frame that may show something and brings no change, and says what it does.

@@ -1,8 +1,7 @@
 //! Connections of which little is shown: most are so. A machine meets their frames one by one, in capture order, and
-//! keeps those alone at which something is shown where credits are not. [`found_connection`] takes the frames out of
-//! both flows as it goes, and returns their number, how many bytes are left over, the findings, and the frames that
-//! they name ([`FoundConnection`]). [`quiet_connection`] answers only where nothing is shown ([`QuietConnection`]), and
-//! lets several threads work on long flows.
+//! keeps those alone at which something is shown where credits are not. [`found_in`] has it meet a list of frames, and
+//! returns their number, how many bytes are left over, the findings, and the frames that they name
+//! ([`FoundConnection`]). A connection of which nothing is shown is a [`QuietConnection`].
 //!
 //! - The machine follows the pass of `audit_terms`, which steps from state to state. What it has said of the frames so
 //!   far is what is shown of them, and it stands for the state after them (`IsFoundAfter`). Most frames are met
@@ -11,14 +10,14 @@
 //! - At others it takes the connection and the streams that meet the frame as they stand, has `fault_rules` say what
 //!   the frame shows, and puts them back, whatever credit is left, and whether or not the streams are opened. So it
 //!   does with all streams at a change of the initial windows. Past a connection error nothing more is met, only
-//!   counted. `found_connection` ends past the number of frames that a caller allows, if something was found, and
-//!   `quiet_connection` at the first finding: for no other reason there is no answer of two flows of HTTP/2.
+//!   counted. `found_in` ends at the first finding where there are more frames than a caller allows: for no other
+//!   reason there is no answer.
 //! - A row holds no credit of -(2^31 - 1) or below, for which no capture has the bytes, and no stream that is opened
 //!   out of order, before which the audit of a capture stops. From the first stream on that no row holds, all stand in
 //!   full in a plain list (`whole_streams`), and no frame is met quietly. Before that, what fails leaves all as it was.
 //! - [`ConnectionFindings`] does this while segments come: the machine visits the frames that `h2_frames` hands on, and
-//!   keeps of a connection what it and that stage keep. At the end it answers what `found_connection` does of the flows
-//!   that these segments have, with its contract (`IsFoundOf`), and where the flows end. It is a
+//!   keeps of a connection what it and that stage keep. At the end it answers what `found_in` does of all frames of
+//!   the flows that these segments have (`IsFoundOf`), and where the flows end. It is a
 //!   `tcp_streams::ConnectionVisitor`, so that a stage goes over the packets of a capture, as they come. There is no
 //!   list of flows or frames.
 //! - Streams are gone through in the order of rows, and the definitions say in that of their first frames. Findings are
@@ -45,9 +44,9 @@
 //!   audit that stops only if all findings of a frame end it; frames on a stalled stream that show nothing; a promise
 //!   that shows nothing of the promised stream; a first frame that a stage does not meet; frames that show nothing
 //!   where streams stand in full.
-//! - Tested, in `threads_test.py`: that connections of which nothing is shown go through no round, and that
-//!   `found_connection` tells a connection error without one. By whole reports: that both succeed where there is
-//!   memory. In `crate_tests`, over segments in disorder: that `found_connection` and a stage of [`ConnectionFindings`]
+//! - Tested, in `threads_test.py`: that connections of which nothing is shown go through no round but the first, and
+//!   that [`found_in`] tells a connection error without another. By whole reports: that both ways succeed where there
+//!   is memory. In `crate_tests`, over segments in disorder: that [`found_in`] and a stage of [`ConnectionFindings`]
 //!   tell the same of random connections. Only measured: how long changes take.
 #![tactic(auto)]
 
@@ -71,6 +70,6 @@ mod shifted_rows;
 mod whole_streams;
 
 pub use connection_findings::{ConnectionFindings, FoundFlows};
-pub use found_connections::{FoundConnection, found_connection};
+pub use found_connections::{FoundConnection, found_in};
 pub use found_visitor::FoundCut;
-pub use quiet_connections::{QuietConnection, quiet_connection};
+pub use quiet_connections::QuietConnection;

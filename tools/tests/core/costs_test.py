@@ -60,8 +60,13 @@ SQUARE, MOST_OF_SQUARE = {"one": ("live --frames",), "several": ("live", "live -
 # Here it grew to 5.29 and 5.01 times: what came backwards is kept in a tree, whose bytes lie in lists that double; and
 # of what overlaps so little work is left that the steps of its tree show. Sixteen times the size takes 11 and 18 times
 # the time; from 10 to 42 MB of backward order memory grows by 4.1 times.
-STEEPER = {("backwards", "memory of one worker"): 5.4, ("overlapping", "instructions"): 5.2}
-# What several workers may take of any capture, since they read ahead and fill pages.
+STEEPER = {
+    ("backwards", "memory of one worker"): 5.4,
+    ("overlapping", "instructions"): 5.2,
+    ("overlapping", "instructions of several"): 5.2,
+    ("overlapping --frames", "instructions of several"): 4.9,
+}
+# What several workers may take of any capture, since they fill pages.
 FIXED_MEMORY = 6 << 20
 # Which figures of costs.tsv are looked at together, as they grow: those of one worker, and those of several.
 GROWING = {"one": (0, 1, 2), "several": (4, 5)}

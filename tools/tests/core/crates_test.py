@@ -76,12 +76,11 @@ class Memory(unittest.TestCase):
     PLACES = {
         "h2audit/src/auditing.rt": [
             "Ok(walk) => match Capture::of_slice(..) { Err(_) => Err(AuditFault::OutOfMemory),",
-            "Ok(walk) => match Capture::of_slice(..) { Err(_) => Err(AuditFault::OutOfMemory),",
-            "Ok((met, cut)) => match met.report(..) { Err(_) => Err(AuditFault::OutOfMemory),",
+            "Ok((met, cut)) => match report_of_found(..) { Err(_) => Err(AuditFault::OutOfMemory),",
+            "match ended { Err(PcapFault::OutOfMemory) => Err(AuditFault::OutOfMemory),",
+            "Ok((met, cut)) => match report_of_listed(..) { Err(_) => Err(AuditFault::OutOfMemory),",
             "match ended { Err(PcapFault::OutOfMemory) => Err(AuditFault::OutOfMemory),",
             "match report.into_bytes(..) { Err(_) => Err(AuditFault::OutOfMemory),",
-            "match audit_records(..) { Err(_) => Err(AuditFault::OutOfMemory),",
-            "match walk.finish(..) { Err(PcapFault::OutOfMemory) => Err(AuditFault::OutOfMemory),",
         ],
         "h2audit/src/command_line/words.rt": ["if kind == ErrorKind::OutOfMemory { return Err(AllocError);"],
         "h2audit/src/each_connection.rt": ["if !are_few(findings.lists.as_slice()) { return Err(AllocError);"],
@@ -91,8 +90,7 @@ class Memory(unittest.TestCase):
             "match words { Err(error) if error.kind() == ErrorKind::OutOfMemory => Err(AllocError),",
             "match opened { Err(error) if error.kind() == ErrorKind::OutOfMemory => Err(AuditFault::OutOfMemory),",
         ],
-        "h2audit/src/reading.rt": ["match read { Err(ReadFault::OutOfMemory) => Err(AuditFault::OutOfMemory),"] * 2,
-        "h2audit/src/running.rt": ["FileHeader::Taken(walk) => { Err(AuditFault::OutOfMemory)"],
+        "h2audit/src/reading.rt": ["match read { Err(ReadFault::OutOfMemory) => Err(AuditFault::OutOfMemory),"],
         "input_output/src/capture_reader.rt": ["if had.is_err() { return Err(ReadFault::OutOfMemory);"],
         "input_output/src/kept_bytes.rt": [
             "let Ok(capture) = Capture::with_last(alloc, self.chunks.as_slice(), &[]) else { return Err(AllocError);"

@@ -83,8 +83,8 @@ def long_connection(capture: Capture) -> None:
             one.send(SERVER, window_update(0, 50))
 
 
-def three_chunks(capture: Capture) -> None:
-    """Strays enough that packets are made beside the reading, and bytes that were taken out for that are put back."""
+def several_reads(capture: Capture) -> None:
+    """Strays enough that a capture is met and let go of several times while it is read."""
     for _ in range(1600):
         capture.segment((50000, 80), CLIENT, 1, 0x10, bytes(1400))
 
@@ -132,7 +132,7 @@ class Refusals(unittest.TestCase):
             first_error_below_overflow,
             many_connections,
             long_connection,
-            three_chunks,
+            several_reads,
             several_pages,
         ):
             path = cls.captures[script.__name__] = home / script.__name__
@@ -243,8 +243,7 @@ class Refusals(unittest.TestCase):
     def test_threads(self) -> None:
         for name, more in (
             ("many_connections", ["--block", "64"]),
-            ("long_connection", ["--block", "64"]),
-            ("three_chunks", ["--block", "64"]),
+            ("long_connection", ["--frames", "--block", "64"]),
             ("several_pages", ["--frames"]),
         ):
             with self.subTest(name):

@@ -4,16 +4,13 @@ No contract says that threads run, since it could not say that they take turns. 
 docs/ARCHITECTURE.md divides the work has a capture here that takes it, and the number of threads that it adds,
 computed by hand. A way that is idle, or a thread that is started in vain, changes a sum. One worker starts no thread;
 of several, the thread at hand mostly starts the others and waits.
-
-The reader begins a walk over packets where the one before it is done. Here a read waits for the threads that were
-started before it (count.c), so there is a walk for each MiB but the last.
 """
 
 import pathlib
 import tempfile
 import unittest
 
-from tests.captures import BEGINNINGS, PREFACE, SERVER, SYN, SYN_ACK, Capture, capture_of, frame_of
+from tests.captures import BEGINNINGS, FILE_HEADER, PREFACE, SERVER, SYN, SYN_ACK, Capture, capture_of, frame_of
 from tests.programs import needed
 from tools.tests.core.counting import Counter
 
@@ -54,6 +51,15 @@ def credits(frames: int) -> bytes:
     return bytes(capture.bytes)
 
 
+def openings(count: int) -> bytes:
+    """The records of so many more connections, which have no frame."""
+    capture = Capture()
+    for port in range(2000, 2000 + count):
+        capture.ends = {"C": ((0x0A000001, port), SERVER), "S": (SERVER, (0x0A000001, port))}
+        capture.syn("C", 1000, SYN)
+    return bytes(capture.bytes).removeprefix(FILE_HEADER)
+
+
 TWO_STREAMS = capture_of("opened\nC HEADERS 1\nC HEADERS 3\n")
 TWO_LOUD_STREAMS = capture_of("opened\nC HEADERS 1\nC HEADERS 3\nS WINDOW_UPDATE 1 0\nS WINDOW_UPDATE 3 0\n")
 # An acknowledgement that answers nothing, which is told and ends nothing: so the frames of a connection that is longer
@@ -68,24 +74,23 @@ SHORT, LONG, LONGER = pings(3904, AT_ONCE), pings(4096, AT_ONCE), pings(20004, A
 Ways = dict[str, int]
 # The words, the capture, and how many threads each way adds beside the one at hand.
 ROWS: list[tuple[str, bytes, Ways]] = [
-    ("--workers 2", TWO_STREAMS, {"flows, of few segments": 0, "nothing is shown, so there is no round": 0}),
-    ("--workers 2 --frames", TWO_STREAMS, {"flows": 0, "one block, so there is no round": 0}),
+    ("--workers 2", TWO_STREAMS, {"one connection": 0, "nothing is shown, so there is no round behind it": 0}),
+    ("--workers 2 --frames", TWO_STREAMS, {"one connection": 0, "one block, so there is no round over it": 0}),
     (
         "--workers 2 --frames --block 4",
         TWO_STREAMS,
-        {"flows": 0, "two groups": 2, "two blocks are summed, and are gone through": 4},
+        {"one connection": 0, "two groups": 2, "two blocks are summed, and are gone through": 4},
     ),
-    ("--workers 2", TWO_LOUD_STREAMS, {"flows": 0, "two groups": 2}),
-    ("--workers 2", SHORT, {"a part ahead, from 256 KiB on": 1, "flows": 0}),
-    ("--workers 4 --block 64", SHORT, {"a part ahead": 1, "flows": 0, "61 blocks are summed": 4}),
-    ("--workers 4", LONG, {"a part ahead": 1, "flows": 0, "faults, and the split, from 4,096 frames on": 2}),
+    ("--workers 2", TWO_LOUD_STREAMS, {"one connection": 0, "one block, told at once": 0}),
+    ("--workers 2", SHORT, {"one connection": 0, "one block, told at once": 0}),
+    ("--workers 4 --block 64", SHORT, {"one connection": 0, "61 blocks are summed": 4}),
+    ("--workers 4", LONG, {"one connection": 0, "one block, told at once": 0}),
     (
         "--workers 4 --block 64",
         LONG,
         {
-            "a part ahead": 1,
-            "flows": 0,
-            "faults, and the split": 2,
+            "one connection": 0,
+            "faults, and the split, from 4,096 frames on": 2,
             "two blocks of a front of 128 frames": 2,
             "64 blocks are summed": 4,
         },
@@ -93,86 +98,60 @@ ROWS: list[tuple[str, bytes, Ways]] = [
     (
         "--workers 4 --block 64",
         pings(4096, "S WINDOW_UPDATE 9 1"),
-        {"a part ahead": 1, "flows": 0, "nothing behind an error in the front": 0},
+        {"one connection": 0, "nothing behind an error in the front": 0},
     ),
     (
         "--workers 4",
         LONGER,
-        {
-            "chunks ahead, one at each 256 KiB of the first MiB": 4,
-            "packets of that MiB while reading goes on": 1,
-            "flows, of 16,384 segments and more": 2,
-            "faults, and the split": 2,
-            "faults in three pieces": 2,
-            "five blocks are summed": 4,
-        },
+        {"one connection": 0, "faults, and the split": 2, "faults in three pieces": 2, "five blocks are summed": 4},
     ),
-    (
-        "--workers 4",
-        pings(70_000),
-        {
-            "chunks ahead": 4,
-            "one more at each MiB from the second on": 4,
-            "packets of five MiB": 5,
-            "flows": 2,
-            "both sides of six batches, of 128 KiB twice and then of 256 KiB": 12,
-            "each is met while the next one is taken": 6,
-        },
-    ),
+    ("--workers 4", pings(70_000), {"one connection": 0, "nothing is shown of six MiB": 0}),
     (
         "--workers 4 --block 100000",
         pings(70_000, AT_ONCE),
-        {
-            "chunks ahead": 4,
-            "one more at each MiB from the second on": 4,
-            "packets of five MiB": 5,
-            "flows": 2,
-            "both sides of two batches, and the first is met beside the second: then a line may be shown": 5,
-            "both sides of six batches for the list": 12,
-            "each is appended while the next one is taken": 6,
-            "faults, and the split": 2,
-            "faults in three pieces": 2,
-            "one block, so none is summed": 0,
-        },
+        {"one connection": 0, "one block, told at once, however long": 0},
     ),
-    ("--workers 2", connections(2), {"flows of two": 2, "nothing is shown, so there is no round": 0}),
-    ("--workers 2", connections(2, UNMATCHED), {"flows of two": 2, "told as met, so there is no round": 0}),
+    ("--workers 2", connections(2), {"two connections": 2, "nothing is shown, so there is no round behind it": 0}),
+    ("--workers 2", connections(2, UNMATCHED), {"two connections": 2, "told at once": 0}),
     (
         "--workers 2 --block 4",
         connections(2, UNMATCHED),
-        {"flows of two": 2, "one is made ready beside the other": 1, "two blocks of each are summed": 2},
+        {"two connections": 2, "one is made ready beside the other": 1, "two blocks of each are summed": 2},
     ),
-    ("--workers 2", connections(2, NOTHING_GRANTED), {"flows of two": 2, "told as met, so there is no round": 0}),
+    ("--workers 2", connections(2, NOTHING_GRANTED), {"two connections": 2, "told at once": 0}),
     (
         "--workers 2",
         connections(2, settings=NO_WINDOW, answer=SETTINGS_ACK + OPENING),
-        {"flows of two": 2, "stalls of openings are told as met, so there is no round": 0},
+        {"two connections": 2, "stalls of openings are told at once": 0},
     ),
     (
         "--workers 2",
         connections(2, settings=NO_WINDOW, answer=OPENING + SETTINGS_ACK),
-        {"flows of two": 2, "stalls of acknowledgements are told as met, so there is no round": 0},
+        {"two connections": 2, "stalls of acknowledgements are told at once": 0},
     ),
     (
         "--workers 2 --block 4",
         connections(2, NOTHING_GRANTED),
         {
-            "flows of two": 2,
+            "two connections": 2,
             "one is made ready, having more frames than a block": 1,
             "two blocks are summed, and two are gone through": 4,
         },
     ),
-    ("--workers 4", connections(63), {"flows": 4}),
+    ("--workers 4", connections(3), {"three connections": 3}),
+    ("--workers 4", connections(63), {"connections": 4}),
+    ("--workers 4", connections(63) + openings(63), {"connections": 4}),
+    ("--workers 4", connections(63) + openings(64), {"one worker's, with less than two frames each on average": 0}),
     (
         "--workers 4 --block 4",
         connections(63, UNMATCHED),
-        {"flows": 4, "three are made ready beside one": 3, "sums": 4},
+        {"connections": 4, "three are made ready beside one": 3, "sums": 4},
     ),
     (
         "--workers 4 --block 4",
         connections(64, UNMATCHED),
         {
-            "flows": 4,
+            "connections": 4,
             "a share of 16, from 64 connections on": 1,
             "of the others two shares are made ready beside one": 2,
             "blocks of these are summed by three": 3,
@@ -181,32 +160,15 @@ ROWS: list[tuple[str, bytes, Ways]] = [
     (
         "--workers 4 --block 4",
         connections(5000, UNMATCHED),
-        {
-            "chunks ahead": 4,
-            "one more at the second MiB": 1,
-            "packets of two MiB": 2,
-            "flows": 4,
-            "three shares of one batch beside one": 3,
-            "four pages, each filled once": 4,
-        },
+        {"connections": 4, "three shares of one batch beside one": 3, "four pages, each filled once": 4},
     ),
-    ("--workers 4", connections(1023), {"a part ahead": 1, "flows": 4, "2,046 entries are one worker's": 0}),
-    ("--workers 4", connections(1024), {"a part ahead": 1, "flows": 4, "two pages, from 2,048 entries on": 2}),
-    (
-        "--workers 4",
-        connections(8192),
-        {
-            "chunks ahead": 4,
-            "one more at the second and the third MiB": 2,
-            "packets of three MiB": 3,
-            "flows": 4,
-            "four pages, each filled once": 4,
-        },
-    ),
-    ("--workers 4 --frames --block 100000", credits(1021), {"flows": 0, "2,046 entries": 0}),
-    ("--workers 4 --frames --block 100000", credits(1022), {"flows": 0, "two pages of 1,025 entries": 2}),
-    ("--workers 4 --frames --block 100000", credits(8190), {"flows": 0, "four pages of 4,096 entries": 4}),
-    ("--workers 4 --frames --block 100000", credits(8191), {"flows": 0, "four pages, filled twice": 8}),
+    ("--workers 4", connections(1023), {"connections": 4, "2,046 entries are one worker's": 0}),
+    ("--workers 4", connections(1024), {"connections": 4, "two pages, from 2,048 entries on": 2}),
+    ("--workers 4", connections(8192), {"connections": 4, "four pages, each filled once": 4}),
+    ("--workers 4 --frames --block 100000", credits(1021), {"one connection": 0, "2,046 entries": 0}),
+    ("--workers 4 --frames --block 100000", credits(1022), {"one connection": 0, "two pages of 1,025 entries": 2}),
+    ("--workers 4 --frames --block 100000", credits(8190), {"one connection": 0, "four pages of 4,096 entries": 4}),
+    ("--workers 4 --frames --block 100000", credits(8191), {"one connection": 0, "four pages, filled twice": 8}),
 ]
 
 

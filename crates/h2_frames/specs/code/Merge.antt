@@ -1,5 +1,4 @@
--- Frames of two sides, each side's in order, put in order by what stands first. Public clauses cite this
--- only through Walk.
+-- Frames of two sides, each side's in order, put in order by what stands first. No public clause cites this.
 use Rattle.std.specs.Prelude.{Bool, true, false, List, [], ◌∷◌, if◌then◌else◌}
 use Rattle.h2_frames.specs.declared.side_frames.SideFrame.{SideFrame}
 use Rattle.h2_frames.specs.declared.unread.Next.{Next}
@@ -21,9 +20,3 @@ abbrev pub is_server_first : (client server : Next) → Bool
 is_server_first (Read x) (Read y) = comes_after x y
 is_server_first (Read x) _ = false
 is_server_first _ server = true
-
--- the same of frames in lists
-abbrev pub is_first_of_server : (client server : List SideFrame) → Bool
-is_first_of_server (x ∷ xs) (y ∷ ys) = comes_after x y
-is_first_of_server (x ∷ xs) [] = false
-is_first_of_server [] _ = true

@@ -1,4 +1,4 @@
--- Bytes that lie in pieces. Public clauses cite this only through Walk.
+-- Bytes that lie in pieces. No public clause cites this.
 use Rattle.std.specs.Prelude.{◌≡◌, ℕ, ◌<◌, ◌^◌, List, ◌++◌, length, Option, Some, None}
 use Rattle.tcp_streams.specs.Bytes.{joined}
 use Rattle.h2_frames.specs.declared.pieces.Pieces.{Pieces}

@@ -1,4 +1,4 @@
--- What single steps of the code leave. Public clauses cite these only through Walk.
+-- What single steps of the code leave. Public clauses cite these only through Cutter.
 use Rattle.std.specs.Prelude.{ℕ, Bool, List, [], ◌∷◌, nat_lt, ◌&&◌, not, ◌==◌, if◌then◌else◌, Some, is_none, min}
 use Rattle.tcp_streams.specs.declared.flows.Arrival.{Arrival}
 use Rattle.h2_frames.specs.declared.side_frames.SideFrame.{SideFrame}

@@ -1,4 +1,4 @@
--- What is still to be read of a side. Public clauses cite this only through Walk.
+-- What is still to be read of a side. No public clause cites this.
 use Rattle.std.specs.Prelude.{◌≡◌, ℕ, ◌+◌, ◌*◌, ◌<◌, ◌≤◌, ◌^◌, List, [], ◌∷◌, length}
 use Rattle.std.specs.List.{AllByRecursion}
 use Rattle.tcp_streams.specs.declared.flows.Arrival.{Arrival}

@@ -1,6 +1,6 @@
 -- The jobs of the round over connections: one for each, which finds nothing.
 use Rattle.std.specs.List.{AllZip, range_with_len}
-use Rattle.std.specs.Prelude.{◌≡◌, ℕ, ◌^◌, ◌<◌, ◌≤◌, Bool, false, List, [], length, map, All, IsTrue}
+use Rattle.std.specs.Prelude.{◌≡◌, ℕ, ◌^◌, ◌<◌, ◌≤◌, Bool, false, List, [], length, map, All, IfSome, IsTrue, Option}
 use Rattle.audit_report.specs.FlowLine.{extents_of}
 use Rattle.audit_report.specs.Stalls.{stalls}
 use Rattle.audit_report.specs.declared.audited.Audited.{Audited}
@@ -12,6 +12,8 @@ use Rattle.h2_frames.specs.Cut.{IsCut, IsHttp2}
 use Rattle.h2_frames.specs.declared.cuts.Cut.{Cut}
 use Rattle.h2_frames.specs.declared.cuts.Cut.TheVariants.{Http2, NotHttp2, NoPreface, NoHandshake}
 use Rattle.h2audit.specs.Audited.{AreAudited, IsFlowOf}
+use Rattle.h2audit.specs.code.Listed.{HasFlows, HoldsFlows}
+use Rattle.h2audit.specs.declared.listed_connections.HeldFlows.{HeldFlows}
 use Rattle.report_pages.specs.code.Reach.{extents_in}
 use Rattle.report_pages.specs.code.Told.{AreToldOf, HasOrderlyOutcome}
 use Rattle.report_pages.specs.declared.told.FoundFrames.{FoundFrames}
@@ -24,28 +26,9 @@ use Rattle.quiet_pass.specs.declared.found_connections.FoundConnection.{FoundCon
 use Rattle.split_merge.specs.code.Findings.{findings_in}
 use Rattle.stop_desk.specs.code.Board.{Job}
 use Rattle.stop_desk.specs.declared.parts.Part.{Part}
-use Rattle.packet_heads.specs.code.Order.{AreNumberedFrom, PayloadsRise, TimesFit}
 use Rattle.packet_heads.specs.declared.packets.Packet.{Packet}
-use Rattle.tcp_streams.specs.Bytes.{bytes_of}
-use Rattle.tcp_streams.specs.Members.{side_segments}
-use Rattle.tcp_streams.specs.code.Orderly.{AreMembers, IsOrderly, payload_sum}
 use Rattle.tcp_streams.specs.declared.members.Connection.{Connection}
 use Rattle.tcp_streams.specs.declared.flows.Flow.{Flow}
-
--- a connection of a capture, with the capture's packets
-pub record AreSources (capture : List ℕ) (packets : List Packet) (connection : Connection) : Type 0 where
-  pub size : length capture < 2 ^ 31
-  pub numbered : AreNumberedFrom 1 packets
-  pub payloads : PayloadsRise 0 (length capture) packets
-  pub times : TimesFit packets
-  pub members : AreMembers 0 packets connection.members.items
-
--- the flow of a side, as its assembly leaves it
-pub record IsSideFlow (capture : List ℕ) (packets : List Packet) (connection : Connection) (side : Side) (flow : Flow)
-    : Type 0 where
-  pub is : IsFlowOf capture packets connection side flow
-  pub within : length (bytes_of flow) ≤ payload_sum (side_segments packets connection side)
-  pub orderly : IsOrderly flow
 
 -- what an outcome keeps of a cut
 abbrev pub KeepsCut : Outcome → Cut → Type 0
@@ -103,18 +86,9 @@ pub record IsToldFlows
   pub server : IsFlowOf capture packets connection Server flows.server
   pub told : IsToldOfFlows frames_shown flows.client flows.server made
 
--- a job for each connection, which finds nothing
-abbrev pub flow_job : ℕ → Job
-flow_job number = record { connection = number; findings = [] }
-
-abbrev pub flow_jobs : List Connection → List Job
-flow_jobs opened = map flow_job (range_with_len 0 (length opened))
-
--- each part tells of its connection
-abbrev pub AreToldFlows : (frames_shown : Bool) → List ℕ → List Packet → List Connection → List (Part Told) → Type 0
-AreToldFlows frames_shown capture packets =
-    AllZip (λ (connection : Connection) (part : Part Told).
-    IsToldFlows frames_shown capture packets connection part.made)
+-- what is told of each connection
+abbrev pub AreToldFlows : (frames_shown : Bool) → List ℕ → List Packet → List Connection → List Told → Type 0
+AreToldFlows frames_shown capture packets = AllZip (IsToldFlows frames_shown capture packets)
 
 -- audits of the connections, for which this stands
 pub record AreToldAudits
@@ -125,14 +99,36 @@ pub record AreToldAudits
   pub stands : AreToldOf told audited
   pub orderly : All (λ (one : Told). HasOrderlyOutcome one.outcome) told
 
--- what a round over the flows of connections has
+-- a job for each connection, which finds nothing
+abbrev pub flow_job : ℕ → Job
+flow_job number = record { connection = number; findings = [] }
+
+abbrev pub flow_jobs : List HeldFlows → List Job
+flow_jobs held = map flow_job (range_with_len 0 (length held))
+
+-- what is told at once of flows of which this is held, if it is: where credits are not shown
+abbrev pub IsMadeOf : (frames_shown : Bool) → HeldFlows → Option Outcome → Type 0
+IsMadeOf frames_shown held made = IfSome made (λ (o : Outcome).
+    (frames_shown ≡ false) × ((client server : Flow) → IsCut client server held.cut → IsHeldBy false client server o))
+
+abbrev pub AreMadeOf : (frames_shown : Bool) → List HeldFlows → List (Part (Option Outcome)) → Type 0
+AreMadeOf frames_shown = AllZip (λ (held : HeldFlows) (part : Part (Option Outcome)).
+    IsMadeOf frames_shown held part.made)
+
+-- this is told of flows of which that is held
+abbrev pub IsToldHeld : (frames_shown : Bool) → HeldFlows → Told → Type 0
+IsToldHeld frames_shown held told =
+    (client server : Flow) → HoldsFlows client server held → IsToldOfFlows frames_shown client server told
+
+abbrev pub AreToldHeld : (frames_shown : Bool) → List HeldFlows → List Told → Type 0
+AreToldHeld frames_shown = AllZip (IsToldHeld frames_shown)
+
+-- what a round over connections has
 pub record FlowView : Type 0 where
   pub frames_shown : Bool
-  pub capture : List ℕ
-  pub packets : List Packet
-  pub opened : List Connection
+  pub held : List HeldFlows
 
--- few connections of a capture, with the capture's packets
+-- few connections, each with flows
 pub record IsFlowView (view : FlowView) : Type 0 where
-  pub few : length view.opened < 2 ^ 32
-  pub sources : All (AreSources view.capture view.packets) view.opened
+  pub few : length view.held < 2 ^ 32
+  pub flows : All HasFlows view.held

@@ -11,7 +11,6 @@ use Rattle.report_pages.specs.declared.told.Outcome.TheVariants.{Audited}
 use Rattle.report_pages.specs.declared.told.Told.{Told}
 use Rattle.split_merge.specs.code.Findings.{findings_in}
 use Rattle.split_merge.specs.declared.findings.Findings.{Findings}
-use Rattle.stop_desk.specs.declared.parts.Part.{Part}
 
 -- all frames of a connection, where they are kept
 abbrev pub frames_of : Outcome → List (List Frame)
@@ -19,12 +18,12 @@ frames_of (Audited audited) = audited.value.frames.items ∷ []
 frames_of _ = []
 
 -- those of each connection of which they are kept
-abbrev pub kept_frames : List (Part Told) → List (List Frame)
-kept_frames parts = flat_map (λ (part : Part Told). frames_of part.made.outcome) parts
+abbrev pub kept_frames : List Told → List (List Frame)
+kept_frames made = flat_map (λ (one : Told). frames_of one.outcome) made
 
 -- what is shown of them
-abbrev pub shown_in_kept : (frames_shown : Bool) → List (Part Told) → List (List Finding)
-shown_in_kept frames_shown parts = map (λ frames. shown frames_shown (pass frames)) (kept_frames parts)
+abbrev pub shown_in_kept : (frames_shown : Bool) → List Told → List (List Finding)
+shown_in_kept frames_shown made = map (λ frames. shown frames_shown (pass frames)) (kept_frames made)
 
 -- the findings of the first of these, or none
 abbrev pub first_of : List Findings → List Finding
@@ -53,14 +52,14 @@ left_after (Audited audited) (findings ∷ rest) = rest
 left_after _ found = found
 
 -- what is told of all
-abbrev pub AreToldWith : List (Part Told) → List Findings → List Told → Type 0
+abbrev pub AreToldWith : List Told → List Findings → List Told → Type 0
 AreToldWith [] found told = told ≡ []
-AreToldWith (part ∷ parts) found [] = ⊥
-AreToldWith (part ∷ parts) found (one ∷ told) =
-    IsToldWith part.made found one × AreToldWith parts (left_after part.made.outcome found) told
+AreToldWith (first ∷ made) found [] = ⊥
+AreToldWith (first ∷ made) found (one ∷ told) =
+    IsToldWith first found one × AreToldWith made (left_after first.outcome found) told
 
 -- what is told of all, from what their flows hold and what is shown of the frames that are kept
-pub record AreFound (frames_shown : Bool) (parts : List (Part Told)) (told : List Told) : Type 0 where
+pub record AreFound (frames_shown : Bool) (made told : List Told) : Type 0 where
   pub found : List Findings
-  pub are : map findings_in found ≡ shown_in_kept frames_shown parts
-  pub put : AreToldWith parts found told
+  pub are : map findings_in found ≡ shown_in_kept frames_shown made
+  pub put : AreToldWith made found told

@@ -1,6 +1,6 @@
--- Connections that are audited while their segments come, and what is told of them.
+-- Captures whose packets are met as they come, and connections whose segments are.
 use Rattle.std.specs.List.{AllZip}
-use Rattle.std.specs.Prelude.{◌≡◌, ℕ, false, List, [], ◌∷◌, map, Option, None, Some, IfSome, Result, Ok, Err}
+use Rattle.std.specs.Prelude.{◌≡◌, ℕ, Bool, false, List, [], ◌∷◌, map, Option, None, Some, IfSome, Result, Ok, Err}
 use Rattle.audit_report.specs.code.Packets.{HasCounted}
 use Rattle.audit_report.specs.declared.headings.SectionHeading.{SectionHeading}
 use Rattle.packet_heads.specs.code.Handed.{Handed, packets_among}
@@ -10,8 +10,6 @@ use Rattle.packet_heads.specs.declared.packets.Segment.{Segment}
 use Rattle.pcap_records.specs.Refusal.{refusal}
 use Rattle.pcap_records.specs.declared.faults.PcapFault.{PcapFault}
 use Rattle.pcap_records.specs.declared.faults.PcapFault.TheVariants.{OutOfMemory}
-use Rattle.quiet_pass.specs.code.FoundFlows.{HasMetSent}
-use Rattle.report_pages.specs.code.Told.{HasOrderlyOutcome}
 use Rattle.report_pages.specs.declared.told.Told.{Told}
 use Rattle.tcp_streams.specs.Membership.{IsConnectionOf, belongings, openings}
 use Rattle.tcp_streams.specs.code.Opened.{HasOpened}
@@ -23,7 +21,7 @@ use Rattle.h2audit.specs.code.Flows.{IsToldFlows, IsToldOfFlows}
 use Rattle.h2audit.specs.code.KeptFrames.{frames_of}
 use Rattle.h2audit.specs.declared.met_captures.MetCapture.{MetCapture}
 use Rattle.h2audit.specs.declared.met_connections.Met.{Met}
-use Rattle.h2audit.specs.declared.met_connections.Met.TheVariants.{Frames, Waits}
+use Rattle.h2audit.specs.declared.met_connections.Met.TheVariants.{Begun, Waits}
 use Rattle.h2audit.specs.declared.met_connections.MetConnection.{MetConnection}
 
 -- a first segment, without payload
@@ -46,50 +44,53 @@ pub record IsWaiting (sent : List Sent) (last : ℕ) (first : Option Segment) : 
   pub record_is : last ≡ last_first first
   pub is_first : IfSome first IsFirst
 
--- these segments came, none of a record above `last`, and their frames were met
-abbrev pub AreMet : (opening : Segment) → List Sent → (last : ℕ) → Met → Type 0
-AreMet opening sent last (Waits first) = IsWaiting sent last first
-AreMet opening sent last (Frames findings) = HasMetSent opening sent last findings.value
+module _ {V : Type 0} (after : Segment → List Sent → ℕ → V → Type 0) where
+  -- these segments came, none of a record above `last`, and the visitor met them
+  abbrev pub AreMet : (opening : Segment) → List Sent → (last : ℕ) → Met V → Type 0
+  AreMet opening sent last (Waits first) = IsWaiting sent last first
+  AreMet opening sent last (Begun visitor) = after opening sent last visitor.value
 
--- so it is of the connection that a SYN opened
-pub record HasMetSegments (opening : Segment) (sent : List Sent) (last : ℕ) (connection : MetConnection)
-    : Type 0 where
-  pub opened : connection.opening ≡ opening
-  pub met : AreMet opening sent last connection.met
+  -- so it is of the connection that a SYN opened
+  pub record HasMetSegments (opening : Segment) (sent : List Sent) (last : ℕ) (connection : MetConnection V)
+      : Type 0 where
+    pub opened : connection.opening ≡ opening
+    pub met : AreMet opening sent last connection.met
 
--- and of each connection of these packets, and all packets were counted
-pub record HasMetPackets (handed : List Handed) (met : MetCapture) : Type 0 where
-  pub lines : HasCounted (packets_among handed) met.lines
-  pub connections : HasOpened HasMetSegments handed met.connections
+  -- and of each connection of these packets, and all packets were counted
+  pub record HasMetPackets (handed : List Handed) (met : MetCapture V) : Type 0 where
+    pub lines : HasCounted (packets_among handed) met.lines
+    pub connections : HasOpened HasMetSegments handed met.connections
 
--- all is told of the two flows that a report tells: no frame is left to be audited
+  -- how a walk over these bytes ended, by which their packets were met: the capture is not refused, and its last record
+  -- cut or whole; or it is refused; or it is not, and memory was wanting
+  abbrev pub IsMetEnd : List ℕ → Result (MetCapture V × Option ℕ) PcapFault → Type 0
+  IsMetEnd capture (Ok ended) = (refusal capture ≡ None) × HasMet HasMetPackets capture ended.0 ended.1
+  IsMetEnd capture (Err OutOfMemory) = refusal capture ≡ None
+  IsMetEnd capture (Err e) = refusal capture ≡ Some e
+
+-- what is told of the connection that a SYN opened is told of its flows
+pub record IsToldOfOpening
+    (frames_shown : Bool) (capture : List ℕ) (packets : List Packet) (opening : Segment) (told : Told) : Type 0 where
+  pub flows : (connection : Connection) → IsConnectionOf (belongings packets) opening connection
+      → IsToldFlows frames_shown capture packets connection told
+
+-- all is told of two flows where credits are not shown: no frame is left to be audited
 pub record IsToldWhole (client server : Flow) (told : Told) : Type 0 where
   pub flows : IsToldOfFlows false client server told
   pub whole : frames_of told.outcome ≡ []
-  pub orderly : HasOrderlyOutcome told.outcome
 
 -- so it is of the connection that a SYN opened
-pub record IsToldOfOpening (capture : List ℕ) (packets : List Packet) (opening : Segment) (told : Told)
+pub record IsWholeOfOpening (capture : List ℕ) (packets : List Packet) (opening : Segment) (told : Told)
     : Type 0 where
-  pub flows : (connection : Connection) → IsConnectionOf (belongings packets) opening connection
-      → IsToldFlows false capture packets connection told
+  pub told_of : IsToldOfOpening false capture packets opening told
   pub whole : frames_of told.outcome ≡ []
-  pub orderly : HasOrderlyOutcome told.outcome
 
 -- what the first line of its section says of it
 abbrev pub heading_by : Segment → SectionHeading
 heading_by opening = record { client = opening.from; server = opening.to; rec = opening.rec }
 
--- and of each opening, in order
-pub record AreToldOfOpenings
-    (capture : List ℕ) (packets : List Packet) (headings : List SectionHeading) (told : List Told)
-    : Type 0 where
+-- this was made of each opening, in order, with its heading
+pub record AreMadeOfOpenings {M : Type 0} (of : List ℕ → List Packet → Segment → M → Type 0)
+    (capture : List ℕ) (packets : List Packet) (headings : List SectionHeading) (made : List M) : Type 0 where
   pub headed : headings ≡ map heading_by (openings (belongings packets))
-  pub each : AllZip (IsToldOfOpening capture packets) (openings (belongings packets)) told
-
--- how a walk over these bytes ended, by which their packets were met: the capture is not refused, and its last record
--- cut or whole; or it is refused; or it is not, and memory was wanting
-abbrev pub IsMetEnd : List ℕ → Result (MetCapture × Option ℕ) PcapFault → Type 0
-IsMetEnd capture (Ok ended) = (refusal capture ≡ None) × HasMet HasMetPackets capture ended.0 ended.1
-IsMetEnd capture (Err OutOfMemory) = refusal capture ≡ None
-IsMetEnd capture (Err e) = refusal capture ≡ Some e
+  pub each : AllZip (of capture packets) (openings (belongings packets)) made

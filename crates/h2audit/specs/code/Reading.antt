@@ -1,5 +1,5 @@
--- What is kept of a capture, what the capture answers, and how reading it fails.
-use Rattle.std.specs.Prelude.{◌≡◌, ◌⊎◌, ◌^◌, ◌≤◌, ℕ, List, Option, None, Some, IfSome, length, take}
+-- What a capture that was read answers, and how reading it fails.
+use Rattle.std.specs.Prelude.{◌≡◌, ◌^◌, ◌≤◌, ℕ, List, Option, None, Some, IfSome, length, take}
 use Rattle.pcap_records.specs.Refusal.{refusal}
 use Rattle.input_output.specs.Account.{HasReadFailed, IsReadToEnd, given, kept}
 use Rattle.input_output.specs.declared.capture_reader.CaptureReader.{CaptureReader}
@@ -11,11 +11,10 @@ use Rattle.h2audit.specs.declared.fault.AuditFault.{AuditFault}
 use Rattle.h2audit.specs.declared.fault.AuditFault.TheVariants as fault
 use Rattle.h2audit.specs.declared.reading.FileHeader.{FileHeader}
 use Rattle.h2audit.specs.declared.reading.FileHeader.TheVariants as header
-use Rattle.h2audit.specs.Report.{IsNoReport}
 use Rattle.h2audit.specs.code.Met.{HasMetPackets}
 use Rattle.h2audit.specs.declared.met_captures.MetCapture.{MetCapture}
-use Rattle.tcp_streams.specs.code.Walk.{IsConnectionWalkIn}
-use Rattle.tcp_streams.specs.declared.walk.ConnectionWalk.{ConnectionWalk}
+use Rattle.packet_heads.specs.declared.packets.Segment.{Segment}
+use Rattle.tcp_streams.specs.code.Side.{Sent}
 
 -- what is kept of a capture answers for it: both have the same refusal, and where they have none they are the same
 abbrev pub AnswersFor : (kept given : List ℕ) → Type 0
@@ -27,39 +26,20 @@ IsReadingFault fault.Read reader = HasReadFailed reader
 IsReadingFault fault.OutOfMemory reader = reader.state ≡ LackedMemory
 IsReadingFault _ _ = ⊥
 
--- what the file header of these bytes gives: a walk over them, or their refusal
-abbrev pub IsHeaderOf : List ℕ → FileHeader ConnectionWalk → Type 0
-IsHeaderOf kept (header.Taken walk) = IsConnectionWalkIn kept walk
-IsHeaderOf kept (header.Refused e) = refusal kept ≡ Some e
+module _ {V : Type 0} (after : Segment → List Sent → ℕ → V → Type 0) where
+  -- what the file header of these bytes gives: a walk that was fed all of them, by which their packets were met, or
+  -- their refusal
+  abbrev pub IsMetHeaderOf : List ℕ → FileHeader (PacketWalk (MetCapture V)) → Type 0
+  IsMetHeaderOf given (header.Taken walk) = HasMade (HasMetPackets after) given walk
+  IsMetHeaderOf given (header.Refused e) = refusal given ≡ Some e
 
--- the same of a walk that was fed all of them, by which their packets were met
-abbrev pub IsMetHeaderOf : List ℕ → FileHeader (PacketWalk MetCapture) → Type 0
-IsMetHeaderOf given (header.Taken walk) = HasMade HasMetPackets given walk
-IsMetHeaderOf given (header.Refused e) = refusal given ≡ Some e
-
--- a capture was read to its end, of a reader that had these bytes left, where they are known: what is kept answers for
--- it, and this is what its file header gives
-pub record HasReadCapture {R : Type 0} (left : Option (List ℕ)) (reader : CaptureReader R)
-    (gives : FileHeader ConnectionWalk)
-    : Type 0 where
-  pub bytes : IfSome left (λ all. given reader ≡ take (2 ^ 31) all)
-  pub ok : IsReadToEnd reader
-  pub answers : AnswersFor (kept reader) (given reader)
-  pub brief : IsBrief reader
-  pub header : IsHeaderOf (kept reader) gives
-
--- a capture was read to its end, of a reader that had these bytes left, where they are known, and its packets met: this
--- is what its file header gives
-pub record HasMetCapture {R : Type 0} (left : Option (List ℕ)) (reader : CaptureReader R)
-    (gives : FileHeader (PacketWalk MetCapture))
-    : Type 0 where
-  pub bytes : IfSome left (λ all. given reader ≡ take (2 ^ 31) all)
-  pub short : length (given reader) ≤ 2 ^ 31
-  pub ok : IsReadToEnd reader
-  pub brief : IsBrief reader
-  pub header : IsMetHeaderOf (given reader) gives
-
--- the faults of an audit of what is kept: it has no report, or there was no memory for the list of its chunks
-abbrev pub IsAuditingFault : {R : Type 0} → AuditFault → (old new : CaptureReader R) → Type 0
-IsAuditingFault e old new = ((new ≡ old) × IsNoReport old.bytes.kept e)
-    ⊎ ((new ≡ record old { state = LackedMemory }) × (e ≡ fault.OutOfMemory))
+  -- a capture was read to its end, of a reader that had these bytes left, where they are known, and its packets met:
+  -- this is what its file header gives
+  pub record HasMetCapture {R : Type 0} (left : Option (List ℕ)) (reader : CaptureReader R)
+      (gives : FileHeader (PacketWalk (MetCapture V)))
+      : Type 0 where
+    pub bytes : IfSome left (λ all. given reader ≡ take (2 ^ 31) all)
+    pub short : length (given reader) ≤ 2 ^ 31
+    pub ok : IsReadToEnd reader
+    pub brief : IsBrief reader
+    pub header : IsMetHeaderOf (given reader) gives

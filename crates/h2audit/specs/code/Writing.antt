@@ -11,9 +11,7 @@ use Rattle.tcp_streams.specs.declared.members.Connection.{Connection}
 use Rattle.tcp_streams.specs.declared.members.Stray.{Stray}
 use Rattle.h2audit.specs.Audited.{verdict_of}
 use Rattle.h2audit.specs.code.Headings.{heading_of}
-use Rattle.h2audit.specs.code.Flows.{AreToldAudits, AreToldFlows}
 use Rattle.report_pages.specs.code.Told.{AreToldOf}
-use Rattle.stop_desk.specs.declared.parts.Part.{Part}
 use Rattle.report_pages.specs.declared.told.Told.{Told}
 use Rattle.input_output.specs.Account.{HasWriteFailed, IsFlushed, written}
 use Rattle.input_output.specs.declared.report_writer.ReportWriter.{ReportWriter}
@@ -27,6 +25,12 @@ IsWritten text verdict writer (Ok judged) = (judged ≡ verdict) × (written wri
 IsWritten text verdict writer (Err fault.Write) = HasWriteFailed writer × ((n : ℕ) × (written writer ≡ take n text))
 IsWritten text verdict writer (Err _) = ⊥
 
+-- so a report was written, if there is one; else nothing changed but the answer
+abbrev pub IsAnswered : {W : Type 0} → Result (List ℕ × Verdict) AuditFault → (old new : ReportWriter W)
+    → Result Verdict AuditFault → Type 0
+IsAnswered (Ok report) old new answer = IsWritten report.0 report.1 new answer
+IsAnswered (Err e) old new answer = (new ≡ old) × (answer ≡ Err e)
+
 -- the first lines of a report, of the packets, the cut record and the strays of a capture
 abbrev pub AreLinesOf : List Packet → (cut : Option ℕ) → List Stray → (lines : List ℕ) → Type 0
 AreLinesOf packets cut strays lines =
@@ -39,12 +43,3 @@ IsToldBehind frames_shown lines headings told text verdict =
     (connections : List Connection) → (audited : List Audited) → headings ≡ map heading_of connections
     → AreToldOf told audited
     → (text ≡ lines ++ sections_text frames_shown 1 connections audited) × (verdict ≡ verdict_of audited)
-
--- the same of connections of which the parts have what their flows hold
-pub record AreTold (frames_shown : Bool) (lines : List ℕ) (headings : List SectionHeading) (parts : List (Part Told))
-    (text : List ℕ) (verdict : Verdict) : Type 0 where
-  pub told : List Told
-  pub audits : (capture : List ℕ) (packets : List Packet) (opened : List Connection)
-      → AreToldFlows frames_shown capture packets opened parts
-      → AreToldAudits frames_shown capture packets opened told
-  pub behind : IsToldBehind frames_shown lines headings told text verdict

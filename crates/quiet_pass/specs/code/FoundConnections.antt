@@ -1,6 +1,6 @@
 -- A connection of which something may be shown, and the frames at which it is.
 use Rattle.std.specs.List.{AllByRecursion}
-use Rattle.std.specs.Prelude.{◌≡◌, ◌==◌, ℕ, false, List, find, length, IsTrue, IfOk, IfSome, Option, Result}
+use Rattle.std.specs.Prelude.{◌≡◌, ◌==◌, ℕ, false, List, find, length, IsTrue}
 use Rattle.audit_terms.specs.Finding.{shown}
 use Rattle.audit_terms.specs.Pass.{pass}
 use Rattle.audit_terms.specs.Place.{place_number}
@@ -9,8 +9,6 @@ use Rattle.audit_terms.specs.declared.findings.Finding.{Finding}
 use Rattle.audit_terms.specs.declared.frames.Frame.{Frame}
 use Rattle.audit_terms.specs.declared.sides.Sides.{Sides}
 use Rattle.h2_frames.specs.Cut.{IsHttp2}
-use Rattle.h2_frames.specs.code.Walk.{IsFreshWalk}
-use Rattle.h2_frames.specs.declared.walk.FrameWalk.{FrameWalk}
 use Rattle.quiet_pass.specs.declared.found_connections.FoundConnection.{FoundConnection}
 use Rattle.tcp_streams.specs.declared.flows.Flow.{Flow}
 
@@ -37,8 +35,3 @@ pub record AreAllFrames (client server : Flow) (frames : List Frame) (count : �
   pub http2 : IsHttp2 client server frames tails
   pub orderly : runs.IsOrderly frames
   pub counted : count ≡ length frames
-
--- what is found of a connection of which no frame was taken is so
-abbrev pub IsFoundFrom : {E : Type 0} → FrameWalk → Result (Option FoundConnection) E → Type 0
-IsFoundFrom walk result = (client server : Flow) → IsFreshWalk client server walk
-    → IfOk result (λ found. IfSome found (IsFoundOf client server))

@@ -9,9 +9,6 @@ use Rattle.audit_terms.specs.code.runs.Orderly.{IsOrderly}
 use Rattle.audit_terms.specs.code.runs.States.{state_after}
 use Rattle.audit_terms.specs.declared.findings.Finding.{Finding}
 use Rattle.audit_terms.specs.declared.frames.Frame.{Frame}
-use Rattle.h2_frames.specs.code.Walk.{IsWalkAfter}
-use Rattle.h2_frames.specs.declared.walk.FrameWalk.{FrameWalk}
-use Rattle.tcp_streams.specs.declared.flows.Flow.{Flow}
 use Rattle.quiet_pass.specs.code.QuietPass.{AreNamed, MovesLittle, StandsFor}
 use Rattle.quiet_pass.specs.code.FoundConnections.{IsNamedAlike}
 use Rattle.quiet_pass.specs.code.SaidFrames.{IsSaidStep}
@@ -67,9 +64,3 @@ pub record HasSaid (frame : Frame) (old new : FoundPass) : Type 0 where
   pub said : List Finding
   pub step : (state : PassState) → StandsFor old.pass state → IsSaidStep state frame said new.pass
   pub added : IsAdded frame said old new
-
--- the frames that were taken of a connection were met
-pub record IsFoundUpTo (client server : Flow) (walk : FrameWalk) (machine : FoundPass) : Type 0 where
-  pub frames : List Frame
-  pub taken : IsWalkAfter client server frames walk
-  pub found : IsFoundAfter frames machine

@@ -6,9 +6,9 @@ use Rattle.report_pages.specs.declared.told.Told.{Told}
 use Rattle.h2audit.proofs.each_connection.all_with_findings.Given as goal
 
 -- what is told so far, with what is to come of the connections and findings that are left, is the whole
-abbrev pub invariant-loop-part : goal.invariant-loop-part
-invariant-loop-part l = record {
-  orderly : All (λ part. HasOrderlyOutcome part.made.outcome) (into_iter_items l.part-iterator);
-  put : (rest : List Told) → AreToldWith (into_iter_items l.part-iterator) (into_iter_items l.rest) rest
-      → AreToldWith l.fn.parts.items l.fn.found.items (l.all.items ++ rest);
+abbrev pub invariant-loop-one : goal.invariant-loop-one
+invariant-loop-one l = record {
+  orderly : All (λ (one : Told). HasOrderlyOutcome one.outcome) (into_iter_items l.one-iterator);
+  put : (rest : List Told) → AreToldWith (into_iter_items l.one-iterator) (into_iter_items l.rest) rest
+      → AreToldWith l.fn.told.items l.fn.found.items (l.all.items ++ rest);
 }

@@ -15,7 +15,7 @@ findings_of_each-requires-after_bounds g c κs within =
     subst (λ (lent : List (Bor (List Frame))). All (λ frames. IsOrderly frames.now) lent)
     (sym c.as_slice-2.ensures.value)
     (All-lent c.in_ok-kept.kept.items
-    (subst (All IsOrderly) (sym kept) (kept-orderly c.args.parts.items c.requires)))
+    (subst (All IsOrderly) (sym kept) (kept-orderly c.args.told.items c.requires)))
 
 pub returns : goal.returns
 returns g c =

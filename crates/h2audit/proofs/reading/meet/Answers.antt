@@ -14,6 +14,7 @@ use Rattle.h2audit.proofs.reading.meet.Goals as goal
 
 pub returns-then-has_ended-clause-read : goal.returns-then-has_ended-clause-read
 returns-then-has_ended-clause-read g c =
+    let after = g.V.ConnectionVisitor.after in
     let now = c.keep_up_to.new.reader in
     let read = c.in_ok-keep_up_to.ensures in
     let none = c.keep_up_to.ensures.grown.unpassed in
@@ -29,9 +30,9 @@ returns-then-has_ended-clause-read g c =
       short = omega (arith, size, read.ended.sound.limit);
       ok = read_to_end now read.ended.sound size (λ unended. search rules);
       brief = λ _. c.keep_up_to.ensures.grown.room;
-      header = met_header_of (given now) c.begin-begun.result c.header_by.result c.header_by.ensures.taken
+      header = met_header_of after (given now) c.begin-begun.result c.header_by.result c.header_by.ensures.taken
           c.header_by.ensures.refused
-          (subst (λ (bytes : List ℕ). IfOk c.begin-begun.result (HasMade HasMetPackets bytes))
+          (subst (λ (bytes : List ℕ). IfOk c.begin-begun.result (HasMade (HasMetPackets after) bytes))
           (ap (take 24) slice ∙ few) c.begin-begun.ensures.ok)
           (subst (λ (bytes : List ℕ). IfErr c.begin-begun.result (λ e. refusal bytes ≡ Some e)) slice
           c.begin-begun.ensures.err);
@@ -39,6 +40,7 @@ returns-then-has_ended-clause-read g c =
 
 pub walk_and_let_go-read-requires-clause-walk : goal.walk_and_let_go-read-requires-clause-walk
 walk_and_let_go-read-requires-clause-walk g c =
+    let after = g.V.ConnectionVisitor.after in
     let now = c.keep_up_to.new.reader in
     let start = rw c.requires.unread.kept at c.in_ok-keep_up_to.ensures.bytes in
     let same : given now ≡ kept now = rw c.requires.unread.reads at start.1 in
@@ -50,8 +52,8 @@ walk_and_let_go-read-requires-clause-walk g c =
       c.keep_up_to.ensures.grown.room,
     )) in
     record {
-      stands = subst (λ (bytes : List ℕ). HasMade HasMetPackets bytes c.in-Ok.walk) (ap (take 24) slice ∙ few)
-          c.in-Ok.ensures.ok;
+      stands = subst (λ (bytes : List ℕ). HasMade (HasMetPackets after) bytes c.in-Ok.walk)
+          (ap (take 24) slice ∙ few) c.in-Ok.ensures.ok;
       counted = omega (arith, ap length same, c.keep_up_to.ensures.grown.unpassed);
     }
 

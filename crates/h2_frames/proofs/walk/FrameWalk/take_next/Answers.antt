@@ -1,5 +1,5 @@
 use Rattle.std.proofs.Common.{◌+◌, refl, arith}
-use Rattle.h2_frames.proofs.{Words.IsInRange, Words.taken_of, Batching.walk-over, Walking.walk-on, Walking.walk-turn}
+use Rattle.h2_frames.proofs.{Words.IsInRange, Words.taken_of, Walking.walk-on, Walking.walk-over, Walking.walk-turn}
 use Rattle.h2_frames.proofs.walk.FrameWalk.take_next.Goals as goal
 
 pub returns-clause-next : goal.returns-clause-next

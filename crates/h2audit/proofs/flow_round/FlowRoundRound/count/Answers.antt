@@ -4,4 +4,4 @@ use Rattle.h2audit.proofs.Flows.{flow_jobs-length}
 use Rattle.h2audit.proofs.flow_round.FlowRoundRound.count.Goals as goal
 
 pub returns : goal.returns
-returns g c = ap (λ (v : FlowView). length v.opened) c.self.view_is ∙ sym (flow_jobs-length c.args.self.now.opened)
+returns c = ap (λ (v : FlowView). length v.held) c.self.view_is ∙ sym (flow_jobs-length c.args.self.now.held)

@@ -1,0 +1,43 @@
+use Rattle.audit_terms.specs.declared.sides.Side.TheVariants.{Client, Server}
+use Rattle.tcp_streams.specs.code.Flows.{last_of}
+use Rattle.tcp_streams.specs.code.SentFlows.{initial_sent}
+use Rattle.tcp_streams.specs.code.Side.{segments_among}
+use Rattle.tcp_streams.specs.code.Taken.{sent_by}
+use Rattle.h2audit.proofs.Flows.{gap-at-end}
+use Rattle.h2audit.proofs.listed_connections.held_of.Goals as goal
+
+pub into_visitor-requires : goal.into_visitor-requires
+into_visitor-requires c =
+    let (capture, packets, opening, is) = c.requires in (opening, is.sent, last_of 0 is.sent, is.visited)
+
+pub finish-requires : goal.finish-requires
+finish-requires c =
+    let (capture, packets, opening, is) = c.requires in
+    let last = last_of 0 is.sent in
+    (opening, is.sent, last, c.in_ok-listed.ensures opening is.sent last is.visited)
+
+pub returns : goal.returns
+returns c = λ capture packets opening numbered is.
+    let last = last_of 0 is.sent in
+    let law = c.flows_are_those_sent.ensures in
+    let has = c.in_ok-listed.ensures opening is.sent last is.visited in
+    let (flows, both) = c.in_ok-handed.ensures.flows opening is.sent last has capture is.stand in
+    let all = c.in_ok-handed.ensures.handed opening is.sent last has capture flows.client flows.server is.stand both in
+    let client_gap = gap-at-end (initial_sent opening is.sent Client) capture
+    (segments_among (sent_by opening.from Client is.sent)) flows.client both.client_is in
+    let server_gap = gap-at-end (initial_sent opening is.sent Server) capture
+    (segments_among (sent_by opening.from Server is.sent)) flows.server both.server_is in
+    record {
+      flows = λ connection of.
+          let client = law capture packets connection opening is.sent Client flows.client numbered of is.are in
+          let server = law capture packets connection opening is.sent Server flows.server numbered of is.are in
+          record {
+            flows = flows;
+            client = client.1 both.client_is;
+            server = server.1 both.server_is;
+            holds = record {
+              extents = c.of_ends.ensures flows.client flows.server all.client_end all.server_end client_gap server_gap;
+              cut = c.cut.ensures flows.client flows.server all.ending;
+            };
+          };
+    }
