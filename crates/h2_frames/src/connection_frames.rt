@@ -69,7 +69,7 @@ impl<V: FrameVisitor + Drop> ConnectionFrames<V> {
     /// What all its segments made of the visitor, and which kind of cut its two flows have.
     ///
     /// The flows, which there are (`HaveFlows`), are those that `tcp_streams::assemble` gives of a capture in which the
-    /// payloads stand (`tcp_streams::laws::flows_are_those_sent`), and of these the cut is the one that `cut_by` finds
+    /// payloads stand (`tcp_streams::laws::flows_are_those_sent`), and of these the cut is the one that `cut` finds
     /// (`laws::ending_tells_the_cut`).
     pub fn finish(self, alloc: Global) -> Result<HandedFrames<V>, AllocError>
         requires { (opening : Opening) × (sent : List Sent) × (last : ℕ) × HasTakenSent V.after opening sent last self }

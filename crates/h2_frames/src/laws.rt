@@ -32,7 +32,7 @@ pub fn fed_grows()
 {}
 
 /// What a cutter tells at its end, and what its visitor was handed, is the cut of the two flows, which
-/// [`cut_by`](crate::cut_by) finds: its kind, its frames and its tails.
+/// [`cut`](crate::cut) finds: its kind, its frames and its tails.
 pub fn ending_tells_the_cut<V: FrameVisitor>()
     ensures { EndingTellsTheCut V.after }
 {}
