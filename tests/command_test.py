@@ -47,7 +47,7 @@ CALLS: list[Call] = [
     ("--frames --block 1048576 --groups 1024 --workers 64 missing.pcap", HEADER, (4, "", "h2audit: read failed\n")),
 ]
 
-# The greatest number of each option. Of workers each number is tried; of the others those about each power of 2.
+# The greatest number of each option. Each number of workers is tried, and those of the others about each power of 2.
 MOST = {"workers": 64, "groups": 1024, "block": 1_048_576}
 
 

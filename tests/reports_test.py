@@ -117,7 +117,7 @@ frame {frame + 1} record {frame + 3} time {frame + 3}000 client connection-credi
 
 
 def long_with_error(program: str, frame: int) -> bool:
-    """A connection of 5,000 frames with an error at this one: a front of 156 frames goes through by itself first."""
+    """A connection of 5,000 frames with an error at this one: a front of 156 frames is met by one worker first."""
     data = "C DATA 1 1\n"
     script = f"opened\nC HEADERS 1\n{data * (frame - 6)}S WINDOW_UPDATE 9 1\n{data * (5000 - frame)}"
     wanted = f"""status 1

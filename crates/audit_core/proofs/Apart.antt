@@ -1,31 +1,17 @@
 -- No two findings of a connection share place and side: at one frame they stand in different rows of the table or are
 -- of different streams, and different frames have different places.
-use Rattle.std.proofs.{Common.◌≢◌, lemmas.List.Elements.filter_passes, lemmas.List.Elements.recursion_from_All}
-use Rattle.std.proofs.Common.{ap, arith, filter, not, sym, true, true≢false, ℕ, ◌*◌, ◌+◌, ◌<◌, ◌==◌, ◌^◌, ◌∙◌, ◌∷◌, ◌≡◌}
+use Rattle.std.proofs.{Common.◌≢◌}
+use Rattle.std.proofs.Common.{ap, arith, sym, ℕ, ◌*◌, ◌+◌, ◌<◌, ◌^◌, ◌∙◌, ◌∷◌}
 use Rattle.{audit_core.proofs.Words.streams_of, std.proofs.Common.List, std.proofs.Common.[]}
-use Rattle.audit_core.proofs.{FrameRows.Any, FrameRows.rows-at, Pairs.Across, Pairs.pairs-append, Pairs.pairs-filter}
-use Rattle.audit_core.proofs.{Pairs.pairs-ordered, Pairs.pairs-refine, PassOrder.AreStreams, PassOrder.at-said}
+use Rattle.audit_core.proofs.{FrameRows.Any, FrameRows.rows-at}
+use Rattle.audit_terms.proofs.Pairs.{Across, pairs-append, pairs-ordered, pairs-refine}
+use Rattle.audit_terms.proofs.StreamsMet.{distinct-streams_of}
+use Rattle.audit_core.proofs.PassOrder.{AreStreams, at-said}
 use Rattle.audit_core.proofs.{PassOrder.from-full_from, PassOrder.streams-streams_of, TableRows.IsRow}
 use Rattle.audit_core.proofs.{TableRows.error_side, Words.AllByRecursion, Words.AreApart, Words.AreApartAsErrors}
 use Rattle.audit_core.proofs.Words.{AreFrom, AreWithin, EachPair, Finding, Frame, IsInRange, IsOrderly, IsOrderlyFrom}
-use Rattle.audit_core.proofs.Words.{PassState, Side, StandApart, comes_after, each-ordered, each-weaker}
-use Rattle.audit_core.proofs.Words.{eq-eqb, first_of, full, full_from, next, pass_start, place_rank, promised_by, said}
-
-not_among-others : (stream : ℕ) (streams : List ℕ)
-    → AllByRecursion (λ other. stream ≢ other) (filter (λ other. not (other == stream)) streams)
-not_among-others stream streams =
-    each-weaker (λ other. not (other == stream) ≡ true) (λ other. stream ≢ other)
-    (λ other e p. true≢false (sym (rw (eq-eqb other stream (sym p)) at e))) _
-    (recursion_from_All _ _ (filter_passes (λ other. not (other == stream)) streams))
-
-distinct-first_of : (stream : ℕ) (streams : List ℕ) → EachPair ◌≢◌ streams → EachPair ◌≢◌ (first_of stream streams)
-distinct-first_of stream streams h = grind (arith, not_among-others, pairs-filter)
-
--- no stream is named twice
-pub distinct-streams_of : (frames : List Frame) → EachPair ◌≢◌ (streams_of frames)
-distinct-streams_of [] = tt
-distinct-streams_of (frame ∷ frames) =
-    distinct-first_of frame.stream _ (distinct-first_of (promised_by frame) _ (distinct-streams_of frames))
+use Rattle.audit_core.proofs.Words.{PassState, Side, StandApart, comes_after, each-ordered}
+use Rattle.audit_core.proofs.Words.{full, full_from, next, pass_start, place_rank, said}
 
 -- findings of different frames differ in place, whatever else is asked of two at one place
 module _ (R : Finding → Finding → Type 0) (elsewhere : (x y : Finding) → x.place ≢ y.place → R x y) where

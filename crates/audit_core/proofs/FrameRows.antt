@@ -2,7 +2,8 @@
 use Rattle.std.proofs.Common.{Option, Some, [], ap, append_assoc, arith, false, if◌then◌else◌, is_some, nat_le, nat_lt}
 use Rattle.std.proofs.Common.{pos, refl, subst, sym, true, ℕ, ℤ, ◌&&◌, ◌++◌, ◌+◌, ◌<◌, ◌^◌, ◌∙◌, ◌∷◌, ◌≡◌, ◌≢◌, ◌≤◌}
 use Rattle.{audit_core.proofs.Words.window_step, std.proofs.Common.Bool, std.proofs.Common.List, std.proofs.Common.None}
-use Rattle.audit_core.proofs.{Meetings.change-ack, Pairs.across-by, Pairs.pairs-append}
+use Rattle.audit_core.proofs.Meetings.{change-ack}
+use Rattle.audit_terms.proofs.Pairs.{across-by, pairs-append}
 use Rattle.audit_core.proofs.PassOrder.{AreStreams, rows_of}
 use Rattle.audit_core.proofs.TableRows.{AreRows, IsRow, is_row, quiet, row-say, rows-nil, rows-say_of, told, ◌⊕◌}
 use Rattle.audit_core.proofs.Words.{AllByRecursion, AreApart, Body, Change, Client, ConnectionState, EachPair, Finding}

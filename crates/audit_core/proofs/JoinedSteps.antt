@@ -6,7 +6,7 @@ use Rattle.audit_core.proofs.Words.{change_taking, in_force_after, initial_in_fo
 use Rattle.audit_core.proofs.Words.{IsOrderlyFrom, frame_step, with_change, steps_of, frames_of, Frame, Change, Step}
 use Rattle.audit_core.proofs.Words.{Settings, EachPair, StreamsHaveSteps, AreRising, HasFrameOrChange}
 use Rattle.audit_core.proofs.Words.{StepsJoinFramesAndChanges, or-true, nat_tests, each-weaker}
-use Rattle.audit_core.proofs.Pairs.{all-before_map, pairs-mapped, pairs-filter, all-mapped}
+use Rattle.audit_terms.proofs.Pairs.{all-before_map, pairs-mapped, pairs-filter, all-mapped}
 use Rattle.audit_core.proofs.StreamSteps.{with_change-cases, all-with, all-steps, all-numbers, all-change_numbers}
 
 abbrev step_numbers : List Step → List ℕ

@@ -1,6 +1,5 @@
 mod Words
 pub mod PassOrder
-mod PassRows
 mod Meetings
 mod CreditLemmas
 mod LiveWindows
@@ -8,11 +7,7 @@ pub mod StreamSteps
 pub mod PartsLemmas
 pub mod QuietSteps
 mod StopLemmas
-mod Pairs
 mod TableRows
 mod FrameRows
 mod Apart
 mod JoinedSteps
-pub mod StreamsMet
-mod RisingRows
-mod ShownPass

@@ -1,7 +1,8 @@
 -- The steps of one stream are those frames of the connection at which it has a frame or a change is brought.
 use Rattle.std.proofs.Common.{Bool, List, None, Option, Some, arith, if◌then◌else◌, ltb-true, refl, ◌++◌}
 use Rattle.std.proofs.Common.{[], ℕ, ◌+◌, ◌<◌, ◌∷◌, ◌≡◌, ◌≤◌}
-use Rattle.audit_core.proofs.{Pairs.all-mapped, Words.AllByRecursion, Words.in_force_after, Words.option_to_list}
+use Rattle.audit_core.proofs.Words.{AllByRecursion, in_force_after, option_to_list}
+use Rattle.audit_terms.proofs.Pairs.{all-mapped}
 use Rattle.audit_core.proofs.Words.{Change, Frame, InForce, Step, meets, step_of, steps_of, taken}
 use Rattle.audit_core.proofs.Words.{IsOrderlyFrom, change_step, change_taking, changes_from, each-append, each-filter}
 use Rattle.audit_core.proofs.Words.{Settings, change_of, frame_step, frames_of, nat_tests, with_change}

@@ -6,7 +6,7 @@ use borrow.Author.Tests.{leb-true, ltb-true}
 use Rattle.audit_core.proofs.Words.{nat_tests, AllByRecursion, Side, Client, Server, Kind, Finding, other, is_side}
 use Rattle.audit_core.proofs.Words.{rank_of, place_of, place_stream, place_rank, finding_at, say, say_of, stops}
 use Rattle.audit_core.proofs.Words.{AreApart, StandApart, rank-small, and_parts, each-append, each-weaker}
-use Rattle.audit_core.proofs.Pairs.{across-by, pairs-append}
+use Rattle.audit_terms.proofs.Pairs.{across-by, pairs-append}
 
 -- the row in which a rank is said of an endpoint, by rank: 0 to 4 local faults, 5 settings, 6 length, 7 the server's
 -- push, 8 order of openings, 9 to 14 and 15 to 20 the connection windows of client and server, 21 to 23 what a frame

@@ -2,11 +2,10 @@
 pub use Rattle.std.proofs.{Math.Bool.and-false, Math.Bool.or-true, lemmas.Int.ints}
 pub use Rattle.std.proofs.lemmas.{Bool.Decides.nat_tests, Bool.and_parts, Bool.cases_Bool, Bool.cond_both, Simd.map-map}
 pub use Rattle.std.specs.{List.AllByRecursion, List.find, List.flat_map, List.list_any, Option.option_map_or}
-pub use Rattle.{audit_core.specs.declared.rows.StreamRow.StreamRow, std.specs.Option.option_to_list}
+pub use Rattle.std.specs.Option.{option_to_list}
 pub use Rattle.{audit_terms.specs.Side.other, fault_rules.specs.code.StreamSteps.credit_after_step}
-pub use Rattle.audit_core.specs.code.StreamRows.{RowFits, idle_rows, row_after, row_opens, row_said, rows_in}
 pub use Rattle.audit_core.specs.laws.{Apart.AreApart, Apart.AreApartAsErrors, Apart.StandApart, Stop.EndsAt}
-pub use Rattle.audit_core.specs.laws.{Apart.EachPair, Streams.StreamsAreNamedOnce, Streams.StreamsAreThoseMet}
+pub use Rattle.audit_terms.specs.laws.Pairs.{EachPair}
 pub use Rattle.audit_core.specs.laws.{Credit.ConnectionCreditIsSum, Parts.PartsMakeFull, Parts.joined}
 pub use Rattle.audit_core.specs.laws.{Credit.StreamCreditIsSum, Steps.StepsJoinFramesAndChanges, Steps.StreamsHaveSteps}
 pub use Rattle.audit_core.specs.laws.{Steps.AreRising, Steps.HasFrameOrChange, Stop.KeptUptoFirstStop, Stop.NoneStops}

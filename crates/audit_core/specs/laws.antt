@@ -4,4 +4,3 @@ pub mod Parts
 pub mod Stop
 pub mod Apart
 pub mod Steps
-pub mod Streams

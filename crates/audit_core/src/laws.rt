@@ -1,6 +1,8 @@
-//! Laws of the definitions in `specs/`. The functions do nothing; each contract is a law.
+//! Laws of the definitions of `audit_terms`. The functions do nothing; each contract is a law.
 
 ghost use Rattle.audit_core.specs.laws.Credit.{ConnectionCreditIsSum, StreamCreditIsSum};
+
+pub use audit_terms::laws::streams_are_those_met;
 
 /// Every credit that the pass carries is the sum of RFC 9113, 6.9: of each side's connection window, and of each live
 /// window of each stream.
@@ -28,15 +30,6 @@ ghost use Rattle.audit_core.specs.laws.Steps.{StepsJoinFramesAndChanges, Streams
 pub fn steps_join_frames_and_changes()
     ensures joined { StepsJoinFramesAndChanges }
     ensures streams { StreamsHaveSteps }
-{}
-
-ghost use Rattle.audit_core.specs.laws.Streams.{StreamsAreThoseMet, StreamsAreNamedOnce};
-
-/// The streams that the pass looks at are those other than 0 that its frames meet, each once.
-#[tactic(auto, using(crate::proofs::StreamsMet::streams_met_lem, crate::proofs::StreamsMet::streams_once_lem))]
-pub fn streams_are_those_met()
-    ensures met { StreamsAreThoseMet }
-    ensures once { StreamsAreNamedOnce }
 {}
 
 ghost use Rattle.audit_core.specs.laws.Parts.{PartsMakeFull};

@@ -2,12 +2,7 @@
 //! of the definitions of `audit_terms` that it follows.
 //!
 //! - [`one_pass`] gives the findings of the pass: all, of every kind, in order, up to and including the first that
-//!   stops. It is for tests: where credits are shown, the audit calls [`shown_in_one_pass`] for a connection that is
-//!   not divided; else, and where that has no answer, it runs the rounds of `audit_rounds`.
-//! - [`shown_in_one_pass`] gives those that are shown. It goes over the frames for its rows and for the settings, and
-//!   then meets them one by one, up to the first at which the audit stops. One stream meets most frames: a guess finds
-//!   its row, else a binary search. Where streams first come out of order (RFC 9113, 5.1.1), or many acknowledgements
-//!   and promises meet many streams, it has no answer: so its time is about linear in the frames.
+//!   stops. It is for tests: the machine of `quiet_pass` meets all frames, with credits shown.
 //! - [`laws`] say what follows from the definitions, and nothing of code. Each credit is the closed sum of RFC 9113,
 //!   6.9, and a live window belongs to an opened stream that its side has not ended. The streams of a connection are
 //!   those that its frames meet, each once, and the steps of a stream are its frames and the changes, in order. The
@@ -24,14 +19,11 @@
 //! - Refused by the prover in other crates, on the same definitions: content of a reset stream that the connection does
 //!   not count, in `quiet_pass`; and wrong bodies of the calls that it makes with these, as a change that counts before
 //!   its acknowledgement in `fault_rules`.
-//! - Tested, in `crate_tests`: that both succeed where there is memory, that the rounds show what `one_pass` does of
-//!   random frames, and that one worker goes through no round where `shown_in_one_pass` has an answer. Neither proved
-//!   nor tested: when it has none.
+//! - Tested, in `crate_tests`: that the rounds show what `one_pass` does of random frames, and that it succeeds where
+//!   there is memory.
 #![tactic(auto)]
 
 pub mod laws;
-mod passes;
-mod rows;
 pub mod worked_examples;
 
-pub use passes::{one_pass, shown_in_one_pass};
+pub use quiet_pass::one_pass;

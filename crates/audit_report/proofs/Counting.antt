@@ -1,5 +1,5 @@
 -- What is counted of packets, as one more comes.
-use Rattle.std.proofs.Common.{◌≡◌, ℕ, ◌+◌, ◌++◌, ◌∷◌, ◌∙◌, [], Bool, List, ap, arith, length, refl, sym}
+use Rattle.std.proofs.Common.{◌≡◌, ℕ, ◌+◌, ◌++◌, ◌∷◌, ◌∙◌, [], Bool, List, ap, arith, length, sym}
 use Rattle.std.proofs.Common.{append_assoc, append-nil, cond, if◌then◌else◌, Result, Ok, Err, OnOk}
 use Rattle.std.proofs.Common.{◌-◌, IfOk, drop, length-append, take}
 use Rattle.std.proofs.Math.ListN.{drop_of_length-le}
@@ -7,14 +7,9 @@ use Rattle.std.proofs.Math.Seq.{drop-append_seam, take-append_seam}
 use Rattle.std.proofs.lemmas.List.{take_all}
 use Rattle.std.proofs.lemmas.List.Sums.{sum_by_push}
 use Rattle.std.specs.Prelude.{count_by}
-use Rattle.audit_report.specs.CaptureLine.{capture_line}
 use Rattle.audit_report.specs.Line.{line}
 use Rattle.audit_report.specs.RecordLines.{record_line, record_lines_from}
-use Rattle.audit_report.specs.code.Packets.{counts_line}
-use Rattle.audit_report.specs.code.Tally.{IsTallyOf}
-use Rattle.audit_report.specs.declared.tally.Tally.{Tally}
 use Rattle.packet_heads.specs.declared.packets.Packet.{Packet}
-use Rattle.pcap_records.specs.declared.pcap_record.Record.{Record}
 
 pub on-ok : {T E P Q : Type 0} (r : Result T E) → (P → Q) → OnOk r P → OnOk r Q
 on-ok (Ok _) step is = step is
@@ -58,9 +53,3 @@ in-front old line items new told size k are told-is size-is k-is after same =
     let none : drop (length new) items ≡ [] = drop_of_length-le items (omega (arith, same)) in
     ap (λ l. take size (new ++ l)) none ∙ ap (λ l. take size l) (append-nil new)
     ∙ take_all size new (omega (arith, same, size-is)) ∙ moved
-
--- the capture line of a tally
-pub tallied : (rows : List Record) (packets : List Packet) (count : ℕ) (tally : Tally) → length rows ≡ count
-    → IsTallyOf packets tally → counts_line count tally ≡ capture_line rows packets
-tallied rows packets count tally same is =
-    rw (same, is.segments, is.snapped, is.not_ipv4, is.fragments, is.not_tcp, is.refused) refl

@@ -1,12 +1,13 @@
 -- A frame is found by its number, since numbers rise.
 use Rattle.std.proofs.Common.{◌≡◌, ◌≢◌, ℕ, zero, suc, ◌+◌, ◌<◌, false, List, [], ◌∷◌, length, get_or, refl}
-use Rattle.std.proofs.Common.{arith, Some, None, nat_eq, eq-eqb, sym}
+use Rattle.std.proofs.Common.{◌^◌, arith, Some, None, nat_eq, eq-eqb, subst, sym}
 use Rattle.std.specs.List.Sorted.{IsNonDecreasingBy, IsPartitionPoint}
 use Rattle.std.{proofs.lemmas.Grind.common_steps, specs.Ordering.nat_cmp, specs.Ordering.ordering_index}
 use Rattle.std.specs.declared.cmp.Ordering.TheVariants.{Less, Equal, Greater}
-use Rattle.audit_terms.specs.{declared.frames.Frame.Frame, code.runs.Orderly.IsOrderlyFrom}
+use Rattle.audit_terms.specs.{declared.frames.Frame.Frame, code.runs.Orderly.IsOrderly}
+use Rattle.audit_terms.specs.code.runs.Orderly.{IsOrderlyFrom}
 use Rattle.audit_terms.proofs.{FindingOrder.nat_level, KeySearch.key_missed}
-use Rattle.audit_terms.proofs.OrderlyFrames.{number_at_least, numbers_rise}
+use Rattle.audit_terms.proofs.OrderlyFrames.{in_range_at, number_at_least, numbers_rise}
 use Rattle.audit_report.specs.FrameLookup.{frame_numbered}
 
 -- the frame at an index is the one of its number
@@ -16,6 +17,20 @@ frame_numbered_at low [] h i d l = absurd (omega arith)
 frame_numbered_at low (x ∷ xs) h zero d l = rw (eq-eqb x.number x.number refl) refl
 frame_numbered_at low (x ∷ xs) h (suc i) d l =
     grind (arith, common_steps, frame_numbered_at (x.number + 1) xs h.2 i d (omega arith), number_at_least, h.2)
+
+-- a frame with the number, wherever it stands, is the one
+pub frame_found : (frames : List Frame) (n i : ℕ) (f : Frame) → IsOrderly frames → i < length frames
+    → f ≡ get_or frames i f → f.number ≡ n → Some f ≡ frame_numbered frames n
+frame_found frames n i f orderly within here same =
+    let at = subst (λ (g : Frame). frame_numbered frames g.number ≡ Some g) (sym here)
+    (frame_numbered_at 0 frames orderly i f within) in
+    sym (subst (λ (k : ℕ). frame_numbered frames k ≡ Some f) same at)
+
+-- and is captured in time
+pub frame_timely : (frames : List Frame) (i : ℕ) (f : Frame) → IsOrderly frames → i < length frames
+    → f ≡ get_or frames i f → f.nanos < 2 ^ 63
+frame_timely frames i f orderly within here =
+    subst (λ (frame : Frame). frame.nanos < 2 ^ 63) (sym here) (in_range_at 0 frames orderly i f within).nanos
 
 -- there is none where no frame has the number
 pub frame_numbered_none : (frames : List Frame) (n : ℕ)

@@ -9,7 +9,7 @@ use crate::numbered::push_record_line;
 use crate::tally::Tally;
 use crate::unopened::push_unopened_lines;
 use crate::words::{push_field, push_word};
-use packet_heads::{Packet, Packets};
+use packet_heads::Packet;
 use std::alloc::{AllocError, Global};
 use tcp_streams::Stray;
 
@@ -25,7 +25,7 @@ pub struct CaptureLines {
 }
 
 impl CaptureLines {
-    /// Of no packet.
+    /// No packet was met.
     pub fn new(alloc: Global) -> CaptureLines
         ensures { HasCounted [] result }
     {
@@ -78,15 +78,15 @@ impl CaptureLines {
 pub fn capture_lines(
     alloc: Global,
     cut: Option<u32>,
-    packets: &Packets<'_>,
+    packets: &[Packet],
     strays: Vec<Stray>,
 ) -> Result<Vec<u8>, AllocError>
     ensures { IfOk result (λ text. (records : Records) → AreRecordsOf packets.now cut records
         → text.items ≡ capture_text records packets.now strays.items) }
 {
     let mut lines = CaptureLines::new(alloc);
-    for index in 0..packets.len() {
-        lines.take(&packets.at(index))?;
+    for packet in packets {
+        lines.take(packet)?;
     }
     lines.finish(cut, strays)
 }

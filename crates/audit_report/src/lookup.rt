@@ -4,27 +4,42 @@ ghost use Rattle.audit_report.specs.FrameLookup.{frame_numbered};
 
 use audit_terms::Frame;
 
-/// The frame of this number, by binary search.
-pub(crate) fn frame_at(frames: &[Frame], number: u32) -> Option<Frame>
+/// Where the frame of this number stands, and the frame. It is first looked up where it may be.
+#[inline]
+pub(crate) fn frame_near(frames: &[Frame], guess: usize, number: u32) -> (usize, Option<Frame>)
     requires { IsOrderly frames.now }
-    ensures value { result ≡ frame_numbered frames.now number }
-    ensures timely { IfSome result (λ frame. frame.nanos < 2 ^ 63) }
+    ensures value { result.1 ≡ frame_numbered frames.now number }
+    ensures timely { IfSome result.1 (λ frame. frame.nanos < 2 ^ 63) }
 {
-    match frames.binary_search_by_key(&number, |frame| frame.number) {
-        Ok(at) => Some(frames[at]),
-        Err(_) => None,
+    match frames.get(guess) {
+        Some(frame) if frame.number == number => (guess, Some(*frame)),
+        _ => frame_at(frames, number),
     }
 }
 
-/// The frame of this number. It is first looked up as far behind the first frame as their numbers differ: there it is,
-/// if numbers have no gap.
-pub(crate) fn frame_of(frames: &[Frame], number: u32) -> Option<Frame>
+/// The same. It is first looked up as far behind the first frame as their numbers differ: there it is, if numbers have
+/// no gap.
+pub(crate) fn frame_at(frames: &[Frame], number: u32) -> (usize, Option<Frame>)
     requires { IsOrderly frames.now }
-    ensures { result ≡ frame_numbered frames.now number }
+    ensures value { result.1 ≡ frame_numbered frames.now number }
+    ensures timely { IfSome result.1 (λ frame. frame.nanos < 2 ^ 63) }
 {
-    match frames.get(offset_of(frames, number)) {
-        Some(frame) if frame.number == number => Some(*frame),
-        _ => frame_at(frames, number),
+    let offset = offset_of(frames, number);
+    match frames.get(offset) {
+        Some(frame) if frame.number == number => (offset, Some(*frame)),
+        _ => search(frames, number),
+    }
+}
+
+/// The same, by binary search.
+fn search(frames: &[Frame], number: u32) -> (usize, Option<Frame>)
+    requires { IsOrderly frames.now }
+    ensures value { result.1 ≡ frame_numbered frames.now number }
+    ensures timely { IfSome result.1 (λ frame. frame.nanos < 2 ^ 63) }
+{
+    match frames.binary_search_by_key(&number, |frame| frame.number) {
+        Ok(at) => (at, Some(frames[at])),
+        Err(at) => (at, None),
     }
 }
 

@@ -8,7 +8,7 @@ ghost use Rattle.audit_report.specs.FrameLookup.{nanos_at};
 ghost use Rattle.audit_report.specs.code.Findings.{IsSpelled, moment_text};
 
 use crate::lines::{LINE_ROOM, put_field};
-use crate::lookup::frame_of;
+use crate::lookup::frame_near;
 use audit_terms::Frame;
 
 /// A record and a time, and both as a line has them.
@@ -16,6 +16,9 @@ use audit_terms::Frame;
 pub(crate) struct Moment {
     pub(crate) rec: u32,
     pub(crate) nanos: u64,
+    /// The number of the frame that was looked up last, and where it stands.
+    number: u32,
+    at: usize,
     /// The spelling, from index `begin` on.
     pub(crate) spelled: [u8; LINE_ROOM],
     pub(crate) begin: usize,
@@ -31,6 +34,8 @@ impl Moment {
         Moment {
             rec: 0,
             nanos: 0,
+            number: 0,
+            at: 0,
             spelled,
             begin,
         }
@@ -44,7 +49,10 @@ impl Moment {
         ensures rec { self.new.rec ≡ record_at frames.now number }
         ensures nanos { self.new.nanos ≡ nanos_at frames.now number }
     {
-        let (rec, nanos) = match frame_of(frames, number) {
+        let (at, found) = frame_near(frames, self.place_of(number), number);
+        self.number = number;
+        self.at = at;
+        let (rec, nanos) = match found {
             Some(frame) => (frame.rec, frame.nanos),
             None => (0, 0),
         };
@@ -52,6 +60,15 @@ impl Moment {
             self.begin = spell(&mut self.spelled, rec, nanos);
             self.rec = rec;
             self.nanos = nanos;
+        }
+    }
+
+    /// Where the frame of this number may stand: findings are in the order of frames.
+    fn place_of(&self, number: u32) -> usize {
+        if number == self.number {
+            self.at
+        } else {
+            self.at.saturating_add(1)
         }
     }
 

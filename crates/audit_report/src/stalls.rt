@@ -126,7 +126,8 @@ fn time_of(frames: &[Frame], number: u32) -> i64
     requires { IsOrderly frames.now }
     ensures { result ≡ pos (nanos_at frames.now number) }
 {
-    match frame_at(frames, number) {
+    let (_, found) = frame_at(frames, number);
+    match found {
         Some(frame) => frame.nanos as i64,
         None => 0,
     }

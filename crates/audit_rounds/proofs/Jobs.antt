@@ -7,13 +7,11 @@ use Rattle.audit_rounds.proofs.Words.{connection_said, connection_after, block_r
 use Rattle.audit_rounds.proofs.Words.{IsOrderlyFrom, Asked, is_past, IsRun, comes_after_is, ordered-in_order}
 use Rattle.audit_rounds.proofs.Words.{in_order-append, in_order-ordered, AreFrom, at-in_order, from-at, from-from}
 use Rattle.audit_rounds.proofs.Words.{from-append, precedes-at, Block, item_with, items_with, items_in, IsBlock, Job}
-use Rattle.audit_rounds.proofs.Words.{IsCut, whole_is_cut_lem, in_order-shown, Heeds, RunLooks, ConnectionBlock}
-use Rattle.audit_rounds.proofs.Words.{sum_job}
+use Rattle.audit_rounds.proofs.Words.{IsCut, whole_is_cut_lem, in_order-shown, Heeds, RunLooks}
 use Rattle.audit_terms.specs.code.runs.Look.{last_answer, upto_of, up_to}
 use Rattle.audit_terms.proofs.OrderedLists.{IsInOrder}
 use Rattle.audit_terms.proofs.SaidPlaces.{AreAt, at-connection}
 use Rattle.stop_desk.proofs.RoundCuts.{front_is_cut_lem}
-use Rattle.audit_rounds.proofs.Lists.{some_of}
 
 -- the job of a number
 pub job-is : {X : Type 0} (f : X → Job) (xs : List X) (k : ℕ) (one : Job) (d : X) → slice_get (map f xs) k ≡ Some one
@@ -22,14 +20,6 @@ job-is f xs k one d e =
     let number : length (map f xs) ≡ length xs = length-map xs f in
     let within = slice_get_within (map f xs) k one e in
     sym (get_or_from_slice_get (map f xs) k one one e) ∙ get_or-map f xs k d one (omega arith)
-
--- a sum finds all that its job has to find, which is nothing
-pub sum-cut : (blocks : List ConnectionBlock) (k : ℕ) (one : Job) → slice_get (map sum_job blocks) k ≡ Some one
-    → IsCut one.findings None []
-sum-cut blocks k one e =
-    let within = slice_get_within (map sum_job blocks) k one e in
-    let long = length-map blocks sum_job in
-    rw (job-is sum_job blocks k one (some_of blocks k (omega arith)) e) (whole_is_cut_lem [] None refl)
 
 -- ---- what a run shows stands in order
 

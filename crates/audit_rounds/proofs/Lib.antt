@@ -1,5 +1,6 @@
 mod Words
 mod Lists
+mod Gathers
 mod Openings
 mod Settling
 mod Items
@@ -12,4 +13,3 @@ mod Stopping
 mod StreamOrder
 mod StreamWork
 mod StreamRounds
-mod EarlyStop

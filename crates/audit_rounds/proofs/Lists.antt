@@ -1,25 +1,24 @@
--- Lists whose elements are the same, each list's by a reading of its own; lists that go side by side; lists to which
--- loops add.
-use Rattle.audit_rounds.proofs.Words.{◌≡◌, ℕ, zero, suc, ◌+◌, ◌<◌, ◌==◌, if◌then◌else◌, List, [], ◌∷◌, ◌++◌, All}
-use Rattle.audit_rounds.proofs.Words.{AllZip, Bor, Some, get_or, slice_get, length, map, take, drop, set}
-use Rattle.audit_rounds.proofs.Words.{sum_by, refl, sym, ap, ◌∙◌, subst, arith, nat_tests, append_assoc, append-nil}
-use Rattle.audit_rounds.proofs.Words.{length-map, length-append, get_or-map, map-append, nil_from_length, take_more}
-use Rattle.audit_rounds.proofs.Words.{get_or-append_seam, All-map, All-nil, All-head, All-tail, Frame}
-use Rattle.audit_rounds.proofs.Words.{flat_map, slice_get-get_or, get_or_from_slice_get, NeverFallFrom}
+-- Lists whose elements are the same, each list's by a reading of its own; lists of which an element is changed; lists
+-- to which loops add.
+use Rattle.audit_rounds.proofs.Words.{◌≡◌, ℕ, zero, suc, ◌+◌, ◌<◌, ◌==◌, Bool, if◌then◌else◌, List, [], ◌∷◌, ◌++◌, All}
+use Rattle.audit_rounds.proofs.Words.{Bor, get_or, length, map, take, drop, set, sum_by, refl, sym, ap, ◌∙◌, subst}
+use Rattle.audit_rounds.proofs.Words.{arith, nat_tests, append_assoc, append-nil, length-map, length-append, get_or-map}
+use Rattle.audit_rounds.proofs.Words.{map-append, nil_from_length, get_or-append_seam, All-map, Frame, flat_map}
+use Rattle.audit_rounds.proofs.Words.{NeverFallFrom, eq-eqb, ne_eqb, Option, PerConnection}
 use Rattle.std.specs.Ordering.{nat_cmp}
 use Rattle.std.specs.List.Sorted.{IsSorted}
 use Rattle.std.specs.List.{sum}
 use Rattle.std.proofs.Math.Seq.{take-add}
-use Rattle.std.proofs.lemmas.Grind.{elements}
 use Rattle.std.proofs.lemmas.List.{flat_map_more}
-use Rattle.std.proofs.lemmas.List.Elements.{All-cons}
 use Rattle.std.proofs.lemmas.List.Sums.{sum-map}
 use Rattle.std.proofs.lemmas.Simd.{map-map}
-use Rattle.std.proofs.lemmas.Slice.Zip.{all_zipped_more}
 
--- the reading that proofs of this crate need most
+-- the readings that proofs of this crate need most
 abbrev pub frames_in : Bor (List Frame) → List Frame
 frames_in frames = frames.now
+
+abbrev pub stop_in : PerConnection → Option ℕ
+stop_in one = one.stop
 
 module _ {X Y Z : Type 0} (f : X → Z) (g : Y → Z) where
   pub as-many : (xs : List X) (ys : List Y) → map f xs ≡ map g ys → length xs ≡ length ys
@@ -40,11 +39,6 @@ module _ {X Y Z : Type 0} (f : X → Z) (g : Y → Z) where
       sum_by (λ x. h (f x)) xs ≡ sum_by (λ y. h (g y)) ys
   sums-alike h xs ys e = sym (sum-map (λ x. h (f x)) xs) ∙ ap sum (maps-alike h xs ys e) ∙ sum-map (λ y. h (g y)) ys
 
-  -- a share and the rest
-  pub shares-whole : (all front back : List Y) (found more : List X) → front ++ back ≡ all
-      → map f found ≡ map g front → map f more ≡ map g back → map f (found ++ more) ≡ map g all
-  shares-whole all front back found more whole one other = rw (← whole) (simp (map-append, one, other))
-
   -- one batch more
   pub batch-more : (all found after : List X) (connections batch rest : List Y) (done k : ℕ) → length batch ≡ k
       → batch ≡ take k rest → rest ≡ drop done connections → after ≡ all ++ found
@@ -53,85 +47,51 @@ module _ {X Y Z : Type 0} (f : X → Z) (g : Y → Z) where
   batch-more all found after connections batch rest done k long front back more before now =
       rw (more, take-add, long, ← back, ← front) (simp (map-append, before, now))
 
--- ---- lists of which each goes with the other's
-
--- what follows for each of a list from the other
-pub zip-all : {X Y : Type 0} (P : X → Type 0) (R : X → Y → Type 0) (Q : Y → Type 0)
-    → ((x : X) (y : Y) → P x → R x y → Q y) → (xs : List X) (ys : List Y) → All P xs → AllZip R xs ys → All Q ys
-zip-all P R Q follows [] [] p h = All-nil Q
-zip-all P R Q follows [] (y ∷ ys) p h = absurd h
-zip-all P R Q follows (x ∷ xs) [] p h = absurd h
-zip-all P R Q follows (x ∷ xs) (y ∷ ys) p h =
-    All-cons Q y ys (follows x y (All-head P x xs p) h.0) (zip-all P R Q follows xs ys (All-tail P x xs p) h.1)
-
--- what goes with an element
-pub zip-at : {X Y : Type 0} (R : X → Y → Type 0) (xs : List X) (ys : List Y) (n : ℕ) (x : X) → AllZip R xs ys
-    → slice_get xs n ≡ Some x → (y : Y) × (slice_get ys n ≡ Some y) × R x y
-zip-at R [] ys n x h e = cc
-zip-at R (z ∷ xs) [] n x h e = absurd h
-zip-at R (z ∷ xs) (y ∷ ys) zero x h e = (y, refl, let same : z ≡ x = cc in rw (← same) h.0)
-zip-at R (z ∷ xs) (y ∷ ys) (suc n) x h e = zip-at R xs ys n x h.1 e
-
-pub zip-get : {X Y : Type 0} (R : X → Y → Type 0) (xs : List X) (ys : List Y) (n : ℕ) (x : X) (y : Y) → AllZip R xs ys
-    → n < length xs → R (get_or xs n x) (get_or ys n y)
-zip-get R xs ys n x y h l =
-    let (got, at, is) = zip-at R xs ys n (get_or xs n x) h (slice_get-get_or xs n x l) in
-    rw (get_or_from_slice_get ys n got y at) is
-
--- one more of both
-pub zip-more : {X Y : Type 0} (R : X → Y → Type 0) (xs : List X) (n : ℕ) (d : X) (ys after : List Y) (y : Y)
-    → n < length xs → AllZip R (take n xs) ys → R (get_or xs n d) y → after ≡ ys ++ y ∷ []
-    → AllZip R (take (n + 1) xs) after
-zip-more R xs n d ys after y l h r e =
-    rw (take_more xs n d l, e) (all_zipped_more R (take n xs) ys (get_or xs n d) y h r)
+  -- read the same, place by place
+  pub maps-each : (xs : List X) (ys : List Y) → length xs ≡ length ys
+      → ((n : ℕ) (x : X) (y : Y) → n < length ys → f (get_or xs n x) ≡ g (get_or ys n y)) → map f xs ≡ map g ys
+  maps-each [] [] long h = refl
+  maps-each [] (y ∷ ys) long h = absurd (omega arith)
+  maps-each (x ∷ xs) [] long h = absurd (omega arith)
+  maps-each (x ∷ xs) (y ∷ ys) long h =
+      ap (λ z. z ∷ map f xs) (h 0 x y (omega arith))
+      ∙ ap (λ zs. g y ∷ zs) (maps-each xs ys (omega arith) (λ n x y l. h (suc n) x y (omega arith)))
 
 -- an element, where there is one
 pub some_of : {X : Type 0} (xs : List X) (n : ℕ) → n < length xs → X
 some_of [] n l = absurd (omega arith)
 some_of (x ∷ xs) n l = x
 
--- ---- what holds of each element by its place
+-- ---- one element is changed
 
--- one element more
-pub each-push : {X : Type 0} (P : ℕ → X → Type 0) (xs : List X) (x : X)
-    → ((n : ℕ) (d : X) → n < length xs → P n (get_or xs n d)) → P (length xs) x
-    → (n : ℕ) (d : X) → n < length (xs ++ x ∷ []) → P n (get_or (xs ++ x ∷ []) n d)
-each-push P [] x h p zero d l = p
-each-push P [] x h p (suc n) d l = absurd (omega arith)
-each-push P (y ∷ xs) x h p zero d l = h 0 d (omega arith)
-each-push P (y ∷ xs) x h p (suc n) d l =
-    each-push (λ n. P (suc n)) xs x (λ n d l. h (suc n) d (omega arith)) p n d (omega arith)
+-- what holds of each by its place
+pub each-changed : {X : Type 0} (P Q : ℕ → X → Type 0) (xs : List X) (k : ℕ) (old new : X) → k < length xs
+    → old ≡ get_or xs k old → (P k old → Q k new) → ((n : ℕ) (x : X) → (k ≡ n → ⊥) → P n x → Q n x)
+    → ((n : ℕ) (d : X) → n < length xs → P n (get_or xs n d)) → (n : ℕ) (d : X) → n < length xs
+    → Q n (get_or (set xs k new) n d)
+each-changed P Q [] k old new l is own others h n d m = absurd (omega arith)
+each-changed P Q (x ∷ xs) zero old new l is own others h zero d m = own (subst (P 0) (sym is) (h 0 old (omega arith)))
+each-changed P Q (x ∷ xs) zero old new l is own others h (suc n) d m =
+    others (suc n) (get_or xs n d) (λ e. omega arith) (h (suc n) d (omega arith))
+each-changed P Q (x ∷ xs) (suc k) old new l is own others h zero d m =
+    others 0 x (λ e. omega arith) (h 0 d (omega arith))
+each-changed P Q (x ∷ xs) (suc k) old new l is own others h (suc n) d m =
+    each-changed (λ n. P (suc n)) (λ n. Q (suc n)) xs k old new (omega arith) is own
+    (λ n x ne. others (suc n) x (λ e. ne (omega arith))) (λ n d l. h (suc n) d (omega arith)) n d (omega arith)
 
--- another element in place of one
-pub each-set : {X : Type 0} (P : ℕ → X → Type 0) (xs : List X) (k : ℕ) (x : X) → P k x → (n : ℕ) (d : X)
-    → n < length xs → ((n ≡ k → ⊥) → P n (get_or xs n d)) → P n (get_or (set xs k x) n d)
-each-set P [] k x p n d l h = absurd (omega arith)
-each-set P (y ∷ xs) zero x p zero d l h = p
-each-set P (y ∷ xs) zero x p (suc n) d l h = h (λ e. omega arith)
-each-set P (y ∷ xs) (suc k) x p zero d l h = h (λ e. omega arith)
-each-set P (y ∷ xs) (suc k) x p (suc n) d l h =
-    each-set (λ n. P (suc n)) xs k x p n d (omega arith) (λ ne. h (λ e. ne (omega arith)))
+-- what parts say of connection n, with one part more
+module _ {P X : Type 0} (connection : P → ℕ) (says : P → List X) (n : ℕ) (parts : List P) (part : P) where
+  abbrev said : List P → List X
+  said parts = flat_map (λ (other : P). if connection other == n then says other else []) parts
 
--- ---- lists to one of which something is added
+  pub said-own : connection part ≡ n → said (parts ++ part ∷ []) ≡ said parts ++ says part
+  said-own e = sym (flat_map_more (λ other. if connection other == n then says other else []) [] parts part)
+      ∙ ap (λ (b : Bool). said parts ++ (if b then says part else [])) (eq-eqb (connection part) n e)
 
-module _ {A X : Type 0} (read : A → List X) where
-  added-at : (all : List A) (k n : ℕ) (one d new : A) (said before : List X) → k < length all
-      → read new ≡ read (get_or all k d) ++ said → ((one : A) → read (get_or all n one) ≡ before)
-      → read (get_or (set all k new) n one) ≡ before ++ (if k == n then said else [])
-  added-at all k n one d new said before l is held =
-      grind (arith, elements, nat_tests, append-nil, held d, held one)
-
-  -- what a part says is added to that of its connection
-  pub part-more : {P : Type 0} (all : List A) (connection : P → ℕ) (says : P → List X) (before : List X) (n : ℕ)
-      (one d new : A) (parts : List P) (part : P) → connection part < length all
-      → read new ≡ read (get_or all (connection part) d) ++ says part
-      → ((one : A) → read (get_or all n one)
-      ≡ before ++ flat_map (λ (other : P). if connection other == n then says other else []) parts)
-      → read (get_or (set all (connection part) new) n one)
-      ≡ before ++ flat_map (λ (other : P). if connection other == n then says other else []) (parts ++ part ∷ [])
-  part-more all connection says before n one d new parts part l is held =
-      added-at all (connection part) n one d new (says part) _ l is held
-      ∙ flat_map_more (λ other. if connection other == n then says other else []) before parts part
+  pub said-other : (connection part ≡ n → ⊥) → said (parts ++ part ∷ []) ≡ said parts
+  said-other ne = sym (flat_map_more (λ other. if connection other == n then says other else []) [] parts part)
+      ∙ ap (λ (b : Bool). said parts ++ (if b then says part else [])) (ne_eqb (connection part) n ne)
+      ∙ append-nil (said parts)
 
 -- ---- sorted numbers
 

@@ -4,9 +4,8 @@ use Rattle.audit_rounds.proofs.Words.{sym, ap, ◌∙◌, arith, Option, Some, N
 use Rattle.audit_rounds.proofs.Words.{IsPermutation, flat_map, flat_map-append, list_any-append, list_any-IsPermutation}
 use Rattle.audit_rounds.proofs.Words.{Frame, changes_of, is_past, streams_of, frames_of, stream_at_end, opened_up_to}
 use Rattle.audit_rounds.proofs.Words.{openings_of, Reaches, AgreeWithin, ◌+◌, ◌<◌, ◌≤◌, true, ◌&&◌, ◌||◌, eqb-true}
-use Rattle.audit_rounds.proofs.Words.{is_none}
-use Rattle.audit_rounds.proofs.Words.{if◌then◌else◌, Sides, Body, Change, Item, Step, Stream, meets, is_headers}
-use Rattle.audit_rounds.proofs.Words.{IsOrderly, IsOrderlyFrom, initial_in_force, in_force_after, change_of}
+use Rattle.audit_rounds.proofs.Words.{is_none, if◌then◌else◌, Sides, Body, Change, Item, Step, Stream, meets}
+use Rattle.audit_rounds.proofs.Words.{is_headers, IsOrderly, IsOrderlyFrom, initial_in_force, in_force_after, change_of}
 use Rattle.audit_rounds.proofs.Words.{idle_stream, stream_after, initial_after, PassState, pass_start, next, step_of}
 use Rattle.audit_rounds.proofs.Words.{items_from, state_from, streams_met_lem, is_marked}
 use Rattle.std.proofs.lemmas.List.Sorted.{IsPermutation-filter_both}

@@ -3,13 +3,12 @@ use Rattle.audit_rounds.proofs.Words.{◌≡◌, ℕ, zero, suc, ◌+◌, ◌<�
 use Rattle.audit_rounds.proofs.Words.{map, take, drop, length, get_or, All, refl, sym, ap, ◌∙◌, arith, length-map}
 use Rattle.audit_rounds.proofs.Words.{length-take-le, take-append-drop, map-append, All-append, AllByRecursion, Frame}
 use Rattle.audit_rounds.proofs.Words.{Item, IsOrderly, IsOrderlyFrom, items_in_blocks, Block, item_with, items_in}
-use Rattle.audit_rounds.proofs.Words.{IsBlock}
-use Rattle.audit_rounds.proofs.Words.{length-orderly, ConnSum, ConnectionBlock, IsShort, AreSums, blocks_of_connection}
-use Rattle.audit_rounds.proofs.Words.{wholes, AddsBlocks, ◌==◌, Bool, if◌then◌else◌, All-head, All-tail}
-use Rattle.audit_rounds.proofs.Words.{flat_map-append, ne_eqb, ConnectionState, Finding}
-use Rattle.audit_rounds.proofs.Words.{connection_start, connection_after_all, block_run, shown, Job}
-use Rattle.audit_rounds.proofs.Words.{BlockFits, IsSum, findings_of_jobs, ReadyBlock, block_job, where_of, whole_shown}
-use Rattle.audit_rounds.proofs.Words.{shown_at, IsPlan, shown-append, drop-at, length-append}
+use Rattle.audit_rounds.proofs.Words.{IsBlock, length-orderly, ConnSum, ConnectionBlock, IsShort, AreSums}
+use Rattle.audit_rounds.proofs.Words.{blocks_of_connection, PerConnection, rest_of, wholes, AddsBlocks, ◌==◌, Bool}
+use Rattle.audit_rounds.proofs.Words.{if◌then◌else◌, All-head, All-tail, flat_map-append, ne_eqb, ConnectionState}
+use Rattle.audit_rounds.proofs.Words.{Finding, connection_start, connection_after_all, block_run, shown, Job, BlockFits}
+use Rattle.audit_rounds.proofs.Words.{IsSum, findings_of_jobs, ReadyBlock, block_job, where_of, whole_shown, shown_at}
+use Rattle.audit_rounds.proofs.Words.{IsPlan, shown-append, drop-at, length-append}
 use Rattle.std.proofs.lemmas.List.{map_more}
 use Rattle.std.proofs.lemmas.Bool.{eq-eqb}
 use Rattle.conn_scan.specs.code.Block.{MovesLittle, ItemsFit}
@@ -79,21 +78,23 @@ laid-push connection (blocks ∷ cuts) cut =
     let e : (connection + 1) + length cuts ≡ connection + length (blocks ∷ cuts) = omega arith in
     rw (laid-push (connection + 1) cuts cut, e, append_assoc) refl
 
-pub cut-next : (all : List Block) (at : ℕ) (whole : Block) (blocks new : List ConnectionBlock) → at < length all
-    → whole ≡ get_or all at whole → AreBlocksOf (wholes (take at all)) blocks → AddsBlocks at whole blocks new
+pub cut-next : (all : List PerConnection) (at : ℕ) (one : PerConnection) (whole : Block)
+    (blocks new : List ConnectionBlock) → at < length all → one ≡ get_or all at one → items_in whole ≡ rest_of one
+    → AreBlocksOf (wholes (take at all)) blocks → AddsBlocks at whole blocks new
     → AreBlocksOf (wholes (take (at + 1) all)) new
-cut-next all at whole blocks new l is h adds =
+cut-next all at one whole blocks new l is same h adds =
     let joined = λ (cut : List Block). items_in_blocks (map items_in cut) in
-    let same = sym (length-map h.cuts joined) ∙ sym (ap length h.items) ∙ length-map (take at all) items_in in
+    let cuts = sym (length-map h.cuts joined) ∙ sym (ap length h.items) ∙ length-map (take at all) rest_of in
     let front = length-take-le at all (omega arith) in
-    let number : 0 + length h.cuts ≡ at = omega arith in
+    let number : 0 + length h.cuts ≡ at = omega (arith, cuts, front) in
     record {
       cuts = h.cuts ++ adds.cut ∷ [];
       laid = adds.added ∙ ap (λ l. l ++ blocks_of_connection at adds.cut) h.laid
           ∙ ap (λ k. laid_out 0 h.cuts ++ blocks_of_connection k adds.cut) (sym number)
           ∙ sym (laid-push 0 h.cuts adds.cut);
-      items = map_more items_in all at whole l ∙ ap (λ one. wholes (take at all) ++ items_in one ∷ []) (sym is)
-          ∙ ap (λ l. l ++ items_in whole ∷ []) h.items ∙ ap (λ l. map joined h.cuts ++ l ∷ []) (sym adds.items)
+      items = map_more rest_of all at one l ∙ ap (λ one. wholes (take at all) ++ rest_of one ∷ []) (sym is)
+          ∙ ap (λ l. l ++ rest_of one ∷ []) h.items
+          ∙ ap (λ l. map joined h.cuts ++ l ∷ []) (sym (adds.items ∙ same))
           ∙ sym (map-append joined h.cuts (adds.cut ∷ []));
     }
 
@@ -115,10 +116,11 @@ laid-within connection bound (cut ∷ cuts) l n d within =
     (laid-within (connection + 1) bound cuts (omega arith)) n d within
 
 -- each is of one of the connections
-pub cut-within : (connections : List Block) (blocks : List ConnectionBlock) (bound : ℕ) → length connections ≡ bound
-    → AreBlocksOf (wholes connections) blocks → All (λ (one : ConnectionBlock). one.connection < bound) blocks
+pub cut-within : (connections : List PerConnection) (blocks : List ConnectionBlock) (bound : ℕ)
+    → length connections ≡ bound → AreBlocksOf (wholes connections) blocks
+    → All (λ (one : ConnectionBlock). one.connection < bound) blocks
 cut-within connections blocks bound e h =
-    let number = sym (length-map connections items_in) ∙ ap length h.items ∙ length-map h.cuts _ in
+    let number = sym (length-map connections rest_of) ∙ ap length h.items ∙ length-map h.cuts _ in
     rw h.laid (laid-within 0 bound h.cuts (omega arith))
 
 -- its items move credits by little

@@ -1,12 +1,11 @@
 -- The rounds make the pass.
-use Rattle.audit_rounds.proofs.Words.{◌==◌, ◌&&◌, not, is_none, pos, is_ack, taken, ◌≡◌, ℕ, ◌+◌, Bool}
-use Rattle.audit_rounds.proofs.Words.{false, List, [], ◌∷◌, ◌++◌, Option, Some, None, refl, sym, ap, ◌∙◌, append-nil}
-use Rattle.audit_rounds.proofs.Words.{AllByRecursion, Sides, Body, Unreadable, Frame, Finding, side_of, in_order}
-use Rattle.audit_rounds.proofs.Words.{upto_stop, shown, local_said, no_previous, previous_after, local_run}
-use Rattle.audit_rounds.proofs.Words.{local_run_from, InForce, settings_said, initial_in_force, in_force_after}
-use Rattle.audit_rounds.proofs.Words.{settings_run, settings_run_from, changes_of, connection_start, streams_of}
-use Rattle.audit_rounds.proofs.Words.{frames_of, stream_run, shown-append, streams_shown, blocks_shown, IsOrderly}
-use Rattle.audit_rounds.proofs.Words.{IsOrderlyFrom}
+use Rattle.audit_rounds.proofs.Words.{◌==◌, ◌&&◌, not, is_none, pos, is_ack, taken, ◌≡◌, ℕ, ◌+◌, Bool, false, List, []}
+use Rattle.audit_rounds.proofs.Words.{◌∷◌, ◌++◌, Option, Some, None, refl, sym, ap, ◌∙◌, append-nil, AllByRecursion}
+use Rattle.audit_rounds.proofs.Words.{Sides, Body, Unreadable, Frame, Finding, side_of, in_order, upto_stop, shown}
+use Rattle.audit_rounds.proofs.Words.{local_said, no_previous, previous_after, local_run, local_run_from, InForce}
+use Rattle.audit_rounds.proofs.Words.{settings_said, initial_in_force, in_force_after, settings_run, settings_run_from}
+use Rattle.audit_rounds.proofs.Words.{changes_of, connection_start, streams_of, frames_of, stream_run, shown-append}
+use Rattle.audit_rounds.proofs.Words.{streams_shown, blocks_shown, IsOrderly, IsOrderlyFrom}
 use Rattle.std.proofs.Math.Bool.{or-true}
 use Rattle.audit_terms.specs.declared.kinds.Kind.{Kind}
 use Rattle.audit_terms.specs.declared.kinds.Kind.TheVariants.{BadPadding, BadPreface, BadPriority, BadSetting}

@@ -1,14 +1,17 @@
 -- What settled rounds give, and what is merged of it.
-use Rattle.audit_rounds.proofs.Words.{◌≡◌, ℕ, ◌+◌, ◌<◌, Bool, List, [], ◌++◌, map, length, get_or, All, Option}
-use Rattle.audit_rounds.proofs.Words.{None, sym, ap, ◌∙◌, arith, Findings, findings_in, length-map, get_or-map}
-use Rattle.audit_rounds.proofs.Words.{slice_get_within, get_or_from_slice_get, slice_get-get_or}
-use Rattle.audit_rounds.proofs.Words.{All-map, Finding, in_order, upto_stop, connection_start, Block, items_in, IsBlock}
-use Rattle.audit_rounds.proofs.Words.{BlockFits, ConnSum, IsStop, Job, findings_of_parts, HasSettled, board_merges_lem}
-use Rattle.audit_rounds.proofs.Words.{Part, Settled, part_of, ConnectionBlock, ReadyBlock, IsSum, AreSums, wholes}
-use Rattle.audit_rounds.proofs.Words.{sum_job, block_job, whole_shown, shown_at, IsPlan, IsRemaining, AreRemaining}
-use Rattle.audit_rounds.proofs.Words.{AreGoneThrough}
-use Rattle.audit_rounds.proofs.Lists.{as-many, some_of}
-use Rattle.audit_rounds.proofs.Plans.{shown-at}
+use Rattle.audit_rounds.proofs.Words.{◌≡◌, ℕ, ◌+◌, ◌<◌, Bool, List, ◌++◌, map, length, get_or, All, Option, None, ap}
+use Rattle.audit_rounds.proofs.Words.{◌∙◌, arith, Findings, findings_in, length-map, get_or-map, slice_get_within}
+use Rattle.audit_rounds.proofs.Words.{get_or_from_slice_get, slice_get-get_or, All-map, Finding, in_order, upto_stop}
+use Rattle.audit_rounds.proofs.Words.{shown, pass, connection_start, BlockFits, ConnSum, IsStop, IsLeast, StopsAt, Job}
+use Rattle.audit_rounds.proofs.Words.{HasSettled, board_merges_lem, Part, Settled, part_of, ConnectionBlock, IsSum}
+use Rattle.audit_rounds.proofs.Words.{AreSums, sum_job, block_job, whole_shown, shown_at, PerConnection}
+use Rattle.audit_rounds.proofs.Words.{IsThroughStreams, rest_of, wholes, ReadyBlock, IsPlan}
+use Rattle.audit_rounds.specs.code.Blocks.{AreBlocksOf}
+use Rattle.audit_rounds.specs.code.Gathered.{AreGathered}
+use Rattle.audit_rounds.specs.code.Plans.{BlocksHaveSettled}
+use Rattle.audit_rounds.proofs.Lists.{maps-each, some_of, stop_in}
+use Rattle.audit_rounds.proofs.Plans.{IsWalk, cut-walk, little-each, shown-at}
+use Rattle.audit_rounds.proofs.Settling.{rest-fits, rest-settles}
 
 -- what the findings of a connection are merged to
 abbrev pub merged : Findings → List Finding
@@ -55,56 +58,39 @@ jobs-inside c connections bound finds plan same planned =
     All-map (λ (job : Job). job.connection < bound) (block_job c) plan
     (λ n d l. let one = planned.within n d l in omega (arith, same, one))
 
--- ---- what is left to do of each connection
+-- ---- what is left of connections
 
-module _ (connections : List Block) (stops : List (Option ℕ)) (found : List Findings)
-    (h : AreRemaining connections stops found) where
-  one-remains : (n : ℕ) (whole : Block) (stop : Option ℕ) (l : n < length connections) (m : n < length found)
-      → IsRemaining (get_or connections n whole) (get_or stops n stop)
-      (findings_in (get_or found n (some_of found n m)))
-  one-remains n whole stop l m = h.each n whole stop (some_of found n m) l
+module _ (c : Bool) (connections : List PerConnection) (through : All (IsThroughStreams c) connections) where
+  each-fits : All (BlockFits connection_start) (wholes connections)
+  each-fits = All-map (BlockFits connection_start) rest_of connections
+      (λ n d l. rest-fits c (get_or connections n d) (through n d l))
 
-  pub each-block : All IsBlock connections
-  each-block n d l = let e = h.founds in (one-remains n d None l (omega arith)).is_block
+  -- their blocks make what is shown of each, whole
+  pub blocks-walk : (blocks : List ConnectionBlock) (sums : List ConnSum) → AreBlocksOf (wholes connections) blocks
+      → AreSums blocks sums → IsWalk c 0 connection_start blocks (shown_at c 0 (wholes connections))
+  blocks-walk blocks sums of are =
+      cut-walk c (wholes connections) blocks of each-fits (little-each blocks sums are)
 
-  pub each-fits : All (BlockFits connection_start) (wholes connections)
-  each-fits = All-map (BlockFits connection_start) items_in connections
-      (λ n d l. let e = h.founds in (one-remains n d None l (omega arith)).fits)
+  pub each-place : All IsStop (map stop_in connections)
+  each-place = All-map IsStop stop_in connections (λ n d l. (through n d l).place)
 
-  pub each-place : All IsStop stops
-  each-place n stop l =
-      let e = h.founds in
-      let f = h.number in
-      (one-remains n (some_of connections n (omega arith)) stop (omega arith) (omega arith)).place
-
-  -- and what is found of it, when its blocks are gone through
-  pub gone-through : {M : Type 0} {makes : ℕ → Option ℕ → M → Type 0} (c : Bool) (plan : List ReadyBlock)
-      (settled : Settled M) (all last : List Findings)
-      → IsPlan c (length connections) (shown_at c 0 (wholes connections)) plan
-      → HasSettled makes (map (block_job c) plan) stops settled → length all ≡ length found
-      → ((n : ℕ) (one one' : Findings) → n < length found
-      → findings_in (get_or all n one)
-      ≡ findings_in (get_or found n one') ++ findings_of_parts n (map part_of settled.parts.items))
-      → map findings_in last ≡ map merged all → AreGoneThrough c connections found last
-  gone-through c plan settled all last planned done alls keeps is =
-      let as_many = h.founds in
-      let long = as-many findings_in merged last all is in
-      record {
-        number = omega arith;
-        each = λ n whole list list' l.
-            let before = findings_in (get_or found n list') in
-            let shows = findings_of_parts n (map part_of settled.parts.items) in
-            let together : findings_in (get_or last n list) ≡ upto_stop (in_order (before ++ shows)) =
-            sym (get_or-map findings_in last n list [] (omega arith)) ∙ ap (λ l. get_or l n []) is
-            ∙ get_or-map merged all n list' [] (omega arith)
-            ∙ ap (λ l. upto_stop (in_order l)) (keeps n list' list' (omega arith)) in
-            let number : length (wholes connections) ≡ length connections = length-map connections items_in in
-            let at : n ≡ 0 + n = omega arith in
-            together
-            ∙ (board_merges_lem (record { jobs = map (block_job c) plan; opening_stops = stops }) _ done.board n before
-            (h.each n whole None list' l).least).findings
-            ∙ ap (λ l. upto_stop (in_order (before ++ l)))
-            (planned.of_each n ∙ ap (shown_at c 0 (wholes connections)) at
-            ∙ shown-at c 0 (wholes connections) n (items_in whole) (omega arith)
-            ∙ ap (whole_shown c) (get_or-map items_in connections n whole (items_in whole) l));
-      }
+  -- and what is shown of each, when its blocks are gone through
+  pub all-shown : (settled : Settled (Unit {0})) (all : List PerConnection) → BlocksHaveSettled c connections settled
+      → AreGathered (map part_of settled.parts.items) connections all
+      → map (λ (one : PerConnection). merged one.found) all
+      ≡ map (λ (one : PerConnection). shown c (pass one.prepared.frames.now)) connections
+  all-shown settled all h are = maps-each (λ (one : PerConnection). merged one.found)
+      (λ (one : PerConnection). shown c (pass one.prepared.frames.now)) all connections are.number (λ n after one l.
+      let own = through n one l in
+      let before = findings_in (get_or connections n one).found in
+      let least : IsLeast (StopsAt before) (get_or (map stop_in connections) n None) =
+      rw (get_or-map stop_in connections n one None l) own.after.kept in
+      let number : length (wholes connections) ≡ length connections = length-map connections rest_of in
+      let at : n ≡ 0 + n = omega arith in
+      ap (λ l. upto_stop (in_order l)) (are.each n one after l).found
+      ∙ (board_merges_lem (record { jobs = map (block_job c) h.plan; opening_stops = map stop_in connections }) _
+      h.done.board n before least).findings
+      ∙ ap (λ l. upto_stop (in_order (before ++ l))) (h.planned.of_each n ∙ ap (shown_at c 0 (wholes connections)) at
+      ∙ shown-at c 0 (wholes connections) n (rest_of one) (omega arith)
+      ∙ ap (whole_shown c) (get_or-map rest_of connections n one (rest_of one) l))
+      ∙ rest-settles c (get_or connections n one) own)

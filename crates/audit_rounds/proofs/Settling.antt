@@ -1,24 +1,23 @@
 -- The round over blocks need not go past the stop: what is left to do of connections makes their passes.
-use Rattle.audit_rounds.proofs.Words.{AgreeWithin, IsRemaining, openings_of, place_number, settings_run, shown-append}
-use Rattle.audit_rounds.proofs.Words.{All, AreGoneThrough, IsAfterStreams, IsOrderlyFrom, contains-none, length-orderly}
-use Rattle.audit_rounds.proofs.Words.{AreAfterStreams, AreFrom, ConnectionState, connection_after_all, connection_start}
-use Rattle.audit_rounds.proofs.Words.{AreRemaining, BlockFits, append_assoc, blocks_shown, frames_within, streams_shown}
-use Rattle.audit_rounds.proofs.Words.{AreRests, Contains, Finding, Prepared, ap, in_order, is_shown, items_in, ltb-true}
-use Rattle.audit_rounds.proofs.Words.{Findings, findings_in}
-use Rattle.audit_rounds.proofs.Words.{Block, Bool, Frame, Item, arith, false, get_or, joined, length, nat_lt, shown, ℕ}
-use Rattle.audit_rounds.proofs.Words.{Change, Global, IsLeast, IsPast, IsRest, IsStop, Option, StopsAt, filter, is_past}
-use Rattle.audit_rounds.proofs.Words.{IsOrderly, IsPrepared, append-nil, changes_of, get_or-map, items_with, length-map}
-use Rattle.audit_rounds.proofs.Words.{List, None, Some, Vec, leb, map, not, pass, pos, refl, take, true, zero, ◌++◌}
-use Rattle.audit_rounds.proofs.Words.{[], block_run, item_with, local_run, map-append, nat_tests, streams_of, upto_stop}
-use Rattle.audit_rounds.proofs.Words.{suc, sym, ◌*◌, ◌+◌, ◌-◌, ◌<◌, ◌^◌, ◌∙◌, ◌∷◌, ◌≡◌, ◌≤◌}
-use Rattle.audit_rounds.proofs.{Items.items_are_found_lem, Jobs.run-ordered, Lists.some_of, Rounds.rounds_make_pass_lem}
+use Rattle.audit_rounds.proofs.Words.{AgreeWithin, openings_of, place_number, settings_run, shown-append}
+use Rattle.audit_rounds.proofs.Words.{IsAfterStreams, IsOrderlyFrom, contains-none, length-orderly, AreFrom}
+use Rattle.audit_rounds.proofs.Words.{ConnectionState, connection_after_all, connection_start, BlockFits, append_assoc}
+use Rattle.audit_rounds.proofs.Words.{blocks_shown, frames_within, streams_shown, Contains, Finding, ap, in_order}
+use Rattle.audit_rounds.proofs.Words.{is_shown, items_in, ltb-true, findings_in, Block, Bool, Frame, Item, arith, false}
+use Rattle.audit_rounds.proofs.Words.{joined, length, nat_lt, shown, ℕ, Change, IsLeast, IsPast, Option, StopsAt}
+use Rattle.audit_rounds.proofs.Words.{filter, is_past, PerConnection, IsOrderly, append-nil, changes_of, items_with}
+use Rattle.audit_rounds.proofs.Words.{length-map, IsThroughStreams, List, None, Some, leb, not, pass, pos, refl, take}
+use Rattle.audit_rounds.proofs.Words.{true, zero, ◌++◌, [], block_run, item_with, local_run, map-append, nat_tests}
+use Rattle.audit_rounds.proofs.Words.{streams_of, upto_stop, suc, sym, ◌*◌, ◌+◌, ◌-◌, ◌<◌, ◌^◌, ◌∙◌, ◌∷◌, ◌≡◌, ◌≤◌}
+use Rattle.audit_rounds.proofs.Words.{IsBlock, rest_of, whole_shown}
+use Rattle.audit_rounds.proofs.{Items.items_are_found_lem, Jobs.run-ordered, Rounds.rounds_make_pass_lem}
 use Rattle.audit_rounds.specs.laws.Settling.{RoundsSettle, blocks_within}
 use Rattle.audit_terms.proofs.FindingOrder.{in_order-alike, in_order-append_comm}
 use Rattle.audit_terms.proofs.OrderlyFrames.{numbers_rise, orderly-filter}
 use Rattle.audit_terms.proofs.Watching.{past-higher}
 use Rattle.audit_terms.specs.code.{Room.HasRoom, runs.States.items_of}
 use Rattle.std.proofs.lemmas.List.Sorted.{IsPartitionedBy-leb, IsPermutation-refl}
-use Rattle.std.proofs.lemmas.{Bool.cond_both, Int.ints, List.ext_get_or}
+use Rattle.std.proofs.lemmas.{Bool.cond_both, Int.ints}
 use Rattle.std.specs.List.Sorted.{IsPartitionPoint, IsPartitionedBy}
 use Rattle.stop_desk.proofs.RoundCuts.{stops_join_lem}
 use Rattle.stop_desk.proofs.RoundMembers.{contains-each, filter-contains}
@@ -202,84 +201,36 @@ start-fits frames items h e =
     let n : length items < 2 ^ 28 = omega arith in
     record { number = omega arith; client = start-room (length items) n; server = start-room (length items) n }
 
-module _ (frames_shown : Bool) (connection : Prepared) (stop : Option ℕ) (opened : List ℕ) (rest : Block)
-    (found : List Finding) (prepared : IsPrepared frames_shown connection) (is : IsRest connection stop opened rest)
-    (after : IsAfterStreams frames_shown connection.frames.now found stop opened) where
-  within-orderly : IsOrderly rest.frames.now
-  within-orderly = rw is.frames
-      (orderly-filter (λ (frame : Frame). not (is_past stop frame.number)) 0 connection.frames.now prepared.orderly)
+-- what is left of a connection after the round over streams
+module _ (frames_shown : Bool) (one : PerConnection) (through : IsThroughStreams frames_shown one) where
+  within-orderly : IsOrderly (frames_within one.stop one.prepared.frames.now)
+  within-orderly = orderly-filter (λ (frame : Frame). not (is_past one.stop frame.number)) 0 one.prepared.frames.now
+      through.prepared.orderly
 
-  one-remains : IsStop stop → IsRemaining rest stop found
-  one-remains place = record {
-    is_block = record {
-      frames = within-orderly;
-      opened = rw is.opened after.rising;
-      changes = rw is.changes prepared.changes_orderly;
-    };
-    fits = start-fits rest.frames.now (items_in rest) within-orderly
-        (length-map rest.frames.now (item_with rest.opened.now rest.changes.now));
-    place = place;
-    least = after.kept;
-  }
+  -- it is a block, which fits the start
+  pub rest-block : (rest : Block) → rest.frames.now ≡ frames_within one.stop one.prepared.frames.now
+      → rest.opened.now ≡ one.opened.items → rest.changes.now ≡ one.prepared.changes.items
+      → IsBlock rest × (items_in rest ≡ rest_of one)
+  rest-block rest frames opened changes = (
+    record {
+      frames = rw frames within-orderly;
+      opened = rw opened through.after.rising;
+      changes = rw changes through.prepared.changes_orderly;
+    },
+    rw (frames, opened, changes) refl,
+  )
 
-  items-are : items_in rest
-      ≡ items_with opened (changes_of connection.frames.now) (frames_within stop connection.frames.now)
-  items-are = rw (is.opened, is.changes, prepared.changes, is.frames) refl
+  pub rest-fits : BlockFits connection_start (rest_of one)
+  rest-fits = start-fits (frames_within one.stop one.prepared.frames.now) (rest_of one) within-orderly
+      (length-map (frames_within one.stop one.prepared.frames.now)
+      (item_with one.opened.items one.prepared.changes.items))
 
-  one-settles : upto_stop (in_order (found ++ shown frames_shown (block_run connection_start (items_in rest))))
-      ≡ shown frames_shown (pass connection.frames.now)
-  one-settles =
-      rounds_settle_lem frames_shown connection.frames.now found
-      (found ++ shown frames_shown (block_run connection_start (items_in rest))) stop opened prepared.orderly after
-      (ap (λ items. upto_stop (in_order (found ++ shown frames_shown (block_run connection_start items)))) items-are)
-
--- ---- all connections of a batch
-
-module _ (frames_shown : Bool) (connections : List Prepared) (found : List Findings)
-    (stops : List (Option ℕ)) (opened : List (Vec ℕ Global)) (rests : List Block)
-    (prepared : All (IsPrepared frames_shown) connections)
-    (after : AreAfterStreams frames_shown connections found stops opened)
-    (are : AreRests connections stops opened rests) where
-  pub all-remain : AreRemaining rests stops found
-  all-remain =
-      let number = are.number in
-      let as_many = after.number in
-      let founds = after.founds in
-      let opens = after.opens in
-      record {
-        number = omega arith;
-        founds = omega arith;
-        each = λ n rest stop list l.
-            let inside : n < length connections = omega arith in
-            let connection = some_of connections 0 (omega arith) in
-            let numbers = some_of opened 0 (omega arith) in
-            one-remains frames_shown (get_or connections n connection) (get_or stops n stop)
-            (get_or opened n numbers).items (get_or rests n rest) (findings_in (get_or found n list))
-            (prepared n connection inside) (are.each n connection stop numbers rest inside)
-            (after.each n connection list stop numbers inside) (after.places n stop (omega arith));
-      }
-
-  pub all-settle : (last : List Findings) → AreGoneThrough frames_shown rests found last
-      → map findings_in last
-      ≡ map (λ (connection : Prepared). shown frames_shown (pass connection.frames.now)) connections
-  all-settle last gone =
-      let number = are.number in
-      let founds = after.founds in
-      let opens = after.opens in
-      let lasts = gone.number in
-      let passed = λ (connection : Prepared). shown frames_shown (pass connection.frames.now) in
-      let long = length-map last findings_in in
-      let many = length-map connections passed in
-      ext_get_or [] (map findings_in last) (map passed connections) (omega arith) (λ n l.
-      let inside : n < length connections = omega arith in
-      let connection = some_of connections 0 (omega arith) in
-      let rest = some_of rests 0 (omega arith) in
-      let list = some_of last 0 (omega arith) in
-      let numbers = some_of opened 0 (omega arith) in
-      get_or-map findings_in last n list [] (omega arith)
-      ∙ gone.each n rest list list (omega arith)
-      ∙ one-settles frames_shown (get_or connections n connection) (get_or stops n None)
-      (get_or opened n numbers).items (get_or rests n rest) (findings_in (get_or found n list))
-      (prepared n connection inside) (are.each n connection None numbers rest inside)
-      (after.each n connection list None numbers inside)
-      ∙ sym (get_or-map passed connections n connection [] inside))
+  -- with what it shows, what was found makes the pass
+  pub rest-settles : upto_stop (in_order (findings_in one.found ++ whole_shown frames_shown (rest_of one)))
+      ≡ shown frames_shown (pass one.prepared.frames.now)
+  rest-settles =
+      ap (λ (changes : List Change). upto_stop (in_order (findings_in one.found ++ whole_shown frames_shown
+      (items_with one.opened.items changes (frames_within one.stop one.prepared.frames.now)))))
+      through.prepared.changes
+      ∙ settles frames_shown one.prepared.frames.now (findings_in one.found) one.stop one.opened.items
+      through.prepared.orderly through.after

@@ -1,8 +1,8 @@
 -- Where the findings of several lists stop.
-use Rattle.audit_rounds.proofs.Words.{◌≡◌, ℕ, ◌+◌, ◌<◌, ◌++◌, ◌∷◌, [], ◌∙◌, ◌⊎◌, ap, arith, List, Vec, Global}
-use Rattle.audit_rounds.proofs.Words.{Option, Some, None, ⊎_elim, inl, inr, flat_map, take, get_or, length}
-use Rattle.audit_rounds.proofs.Words.{flat_map-append, take_more, append-nil, Contains-append_left}
-use Rattle.audit_rounds.proofs.Words.{Finding, IsFirstStop, IsLeast, StopsAt, lesser_place}
+use Rattle.audit_rounds.proofs.Words.{◌≡◌, ℕ, ◌+◌, ◌<◌, ◌++◌, ◌∷◌, [], ◌∙◌, ◌⊎◌, ap, arith, List, Vec, Global, Option}
+use Rattle.audit_rounds.proofs.Words.{Some, None, ⊎_elim, inl, inr, flat_map, take, get_or, length, flat_map-append}
+use Rattle.audit_rounds.proofs.Words.{take_more, append-nil, Contains-append_left, Finding, IsFirstStop, IsLeast}
+use Rattle.audit_rounds.proofs.Words.{StopsAt, lesser_place}
 use Rattle.std.proofs.lemmas.List.Elements.{Contains-append_cases, Contains-append_right}
 
 -- the findings of one list more

@@ -1,21 +1,21 @@
 -- The round over streams: what it begins from, its plan, what is said of the jobs of a connection, and what it leaves.
 use Rattle.audit_rounds.proofs.Words.{◌≡◌, ℕ, zero, suc, ◌+◌, ◌*◌, ◌-◌, ◌^◌, ◌<◌, ◌≤◌, ◌==◌, Bool, not, if◌then◌else◌}
 use Rattle.audit_rounds.proofs.Words.{List, [], ◌∷◌, ◌++◌, length, map, flat_map, get_or, slice_get, All, Option, Some}
-use Rattle.audit_rounds.proofs.Words.{None, refl, sym, ap, ◌∙◌, arith, append-nil, Vec, Global, AllZip, AllByRecursion}
+use Rattle.audit_rounds.proofs.Words.{None, refl, sym, ap, ◌∙◌, arith, append-nil, Vec, Global, AllByRecursion}
 use Rattle.audit_rounds.proofs.Words.{flat_map-append, nat_tests, All-map, All-filter, All-contains, slice_get_within}
-use Rattle.audit_rounds.proofs.Words.{Frame, Finding, IsOrderly, initial_in_force, settings_run, no_previous}
-use Rattle.audit_rounds.proofs.Words.{local_run, streams_of, length-orderly, AreAcknowledged, StreamRow, groups}
-use Rattle.audit_rounds.proofs.Words.{IsSplit, IsStop, Prepared, Streams, StreamJob, IsPrepared, found_before, IsReady}
-use Rattle.audit_rounds.proofs.Words.{IsJobOf, job_at, plan_from, IsFirstStop, IsStreamsOf, IsRow, true, filter, subst}
-use Rattle.audit_rounds.proofs.Words.{list_any, length-map, get_or-map, get_or_default, slice_get-get_or}
-use Rattle.audit_rounds.proofs.Words.{get_or_from_slice_get, list_any-IsPermutation, All-head, All-tail, AllZip-long}
-use Rattle.audit_rounds.proofs.Words.{Change, shown, changes_of, frames_of, stream_run, stream_at_end, option_to_list}
-use Rattle.audit_rounds.proofs.Words.{frames_at, Job, StopsAt, IsLeast, findings_of_jobs, findings_of_parts}
-use Rattle.audit_rounds.proofs.Words.{board_merges_lem, Part, Settled, part_of, openings_of, streams_shown, Reaches}
-use Rattle.audit_rounds.proofs.Words.{AgreeWithin, IsAfterStreams, AreAfterStreams, numbers_told, IsInOrder, AreReady}
-use Rattle.audit_rounds.proofs.Words.{job_of, of_rows, rows_opened, Findings, findings_in}
+use Rattle.audit_rounds.proofs.Words.{Frame, Finding, initial_in_force, settings_run, no_previous, local_run}
+use Rattle.audit_rounds.proofs.Words.{streams_of, length-orderly, StreamRow, groups, IsStop, Prepared, Streams}
+use Rattle.audit_rounds.proofs.Words.{StreamJob, IsPrepared, found_before, IsReady, IsJobOf, job_at, plan_from}
+use Rattle.audit_rounds.proofs.Words.{IsFirstStop, IsRow, true, filter, subst, list_any, length-map, get_or-map}
+use Rattle.audit_rounds.proofs.Words.{slice_get-get_or, get_or_from_slice_get, list_any-IsPermutation, All-head}
+use Rattle.audit_rounds.proofs.Words.{All-tail, Change, shown, changes_of, frames_of, stream_run, stream_at_end}
+use Rattle.audit_rounds.proofs.Words.{option_to_list, frames_at, Job, StopsAt, IsLeast, findings_of_jobs}
+use Rattle.audit_rounds.proofs.Words.{findings_of_parts, board_merges_lem, Part, Settled, part_of, openings_of}
+use Rattle.audit_rounds.proofs.Words.{streams_shown, Reaches, AgreeWithin, IsAfterStreams, numbers_told, IsInOrder}
+use Rattle.audit_rounds.proofs.Words.{HasTaken, IsClosed, job_of, of_rows, rows_opened, findings_in, PerConnection}
+use Rattle.audit_rounds.proofs.Words.{BeginsRounds, AreStreamsOf}
 use Rattle.std.proofs.lemmas.List.{map-id}
-use Rattle.std.proofs.lemmas.List.Elements.{All-weaker, All-from_recursion}
+use Rattle.std.proofs.lemmas.List.Elements.{All-from_recursion}
 use Rattle.std.specs.List.{between}
 use Rattle.std.proofs.lemmas.List.Folds.{flat_map-map}
 use Rattle.audit_terms.proofs.FindingLists.{each-append}
@@ -27,27 +27,27 @@ use Rattle.stop_desk.specs.code.Stop.{IsPlace}
 use Rattle.split_merge.specs.code.Split.{opening_of, row_positions}
 use Rattle.stop_desk.specs.code.Board.{stop_of}
 use Rattle.stop_desk.specs.code.Laid.{board_with}
-use Rattle.audit_rounds.specs.code.AfterStreams.{HaveSettledOver}
+use Rattle.audit_rounds.specs.code.Gathered.{AreClosed, AreGathered}
+use Rattle.audit_rounds.specs.code.StreamRound.{AreThroughStreams, StreamsHaveSettled}
 use Rattle.audit_rounds.specs.code.Streams.{row_frames, shown_of}
-use Rattle.audit_rounds.proofs.Lists.{all-alike, zip-all, as-many, zip-at, zip-get}
+use Rattle.audit_rounds.proofs.Lists.{all-alike, as-many, maps-each, some_of, stop_in}
 use Rattle.audit_rounds.proofs.Batches.{length-rows}
 use Rattle.audit_rounds.proofs.Rounds.{local-each, settings-each}
 use Rattle.split_merge.proofs.Ahead.{orderly-of, acknowledged-of}
 use Rattle.audit_rounds.proofs.Jobs.{job-is}
-use Rattle.audit_rounds.proofs.Settles.{parts-within}
 use Rattle.audit_rounds.proofs.Openings.{agree-append, agree-parted, agree-reached}
 
 -- ---- the plan
 
 -- the groups of the rows of a connection
 abbrev pub groups_of : (count : ℕ) → Streams → List (ℕ × ℕ)
-groups_of count streams = groups (length streams.split.now.rows.items) count
+groups_of count streams = groups (length streams.of.now.split.rows.items) count
 
 module _ (count : ℕ) (some : 1 ≤ count) (all : List Streams) where
   -- the ranges of a connection lie within its rows
   ranges-planned : (at : ℕ) (one : Streams) → slice_get all at ≡ Some one → (from : ℕ) (ranges : List (ℕ × ℕ))
-      → AreConsecutive from (length one.split.now.rows.items) ranges
-      → (from ≤ length one.split.now.rows.items) × AllByRecursion (IsJobOf all) (map (job_at at) ranges)
+      → AreConsecutive from (length one.of.now.split.rows.items) ranges
+      → (from ≤ length one.of.now.split.rows.items) × AllByRecursion (IsJobOf all) (map (job_at at) ranges)
   ranges-planned at one here from [] h = (omega arith, tt)
   ranges-planned at one here from (range ∷ ranges) (first, rising, later) =
       let rest = ranges-planned at one here range.1 ranges later in
@@ -62,7 +62,7 @@ module _ (count : ℕ) (some : 1 ≤ count) (all : List Streams) where
       → AllByRecursion (IsJobOf all) (plan_from count at rest)
   planned-from at [] e = tt
   planned-from at (one ∷ rest) e =
-      let number = length one.split.now.rows.items in
+      let number = length one.of.now.split.rows.items in
       each-append (IsJobOf all) (map (job_at at) (groups number count)) _
       (ranges-planned at one (e at 0 (omega arith)) 0 (groups number count) (groups-consecutive number count some)).1
       (planned-from (at + 1) rest (λ n k l. e n (suc k) (omega arith)))
@@ -71,6 +71,13 @@ module _ (count : ℕ) (some : 1 ≤ count) (all : List Streams) where
   pub planned : All (IsJobOf all) (plan_from count 0 all)
   planned = All-from_recursion (IsJobOf all) (plan_from count 0 all)
       (planned-from 0 all (λ n k l. ap (slice_get all) (let same : n ≡ k = omega arith in same)))
+
+-- and is of one of so many connections
+pub jobs-inside : (count : ℕ) → 1 ≤ count → (frames_shown : Bool) (all : List Streams) (bound : ℕ) → length all ≡ bound
+    → All (λ (job : Job). job.connection < bound) (map (job_of frames_shown all) (plan_from count 0 all))
+jobs-inside count some frames_shown all bound e =
+    All-map (λ (job : Job). job.connection < bound) (job_of frames_shown all) (plan_from count 0 all)
+    (λ n d l. let own = (planned count some all n d l).connection in omega (arith, own, e))
 
 -- what is said of a job, where it is of this connection
 abbrev pub of_connection : {X : Type 0} → (StreamJob → List X) → (connection : ℕ) → StreamJob → List X
@@ -118,50 +125,47 @@ module _ {X : Type 0} (said : StreamJob → List X) (n count : ℕ) where
 -- ---- the streams of connections that are prepared are ready
 
 -- the rows of a split, and at most two for each frame
-module _ (streams : Streams) (o : IsOrderly streams.frames.now)
-    (a : AreAcknowledged streams.frames.now streams.changes)
-    (frames_shown : Bool) (s : IsSplit frames_shown streams.changes streams.frames.now streams.split.now) where
-  rows-are : All (IsRow streams) streams.split.now.rows.items
+module _ (frames_shown : Bool) (streams : Streams) (p : IsPrepared frames_shown streams.of.now)
+    (same : streams.changes ≡ streams.of.now.changes.items) where
+  abbrev rows_of : List StreamRow
+  rows_of = streams.of.now.split.rows.items
+
+  rows-are : All (IsRow streams) rows_of
   rows-are k d l =
-      let rows = streams.split.now.rows.items in
-      let row = get_or rows k d in
-      let own = s.each k d l in
-      let frames = streams.frames.now in
+      let row = get_or rows_of k d in
+      let own = p.split.each k d l in
+      let frames = streams.of.now.frames.now in
       let IsSmall = λ (stream : ℕ). stream < 2 ^ 31 in
       record {
-        range = s.ranges k d l;
-        in_range = all-alike (λ (row : StreamRow). row.stream) (λ stream. stream) IsSmall rows _
-            (s.streams ∙ sym (map-id _)) (All-filter (λ stream. not (s.is_quiet stream)) IsSmall (streams_of frames)
-            (All-from_recursion IsSmall (streams_of frames) (streams-streams_of 0 frames o))) k d l;
+        range = p.split.ranges k d l;
+        in_range = all-alike (λ (row : StreamRow). row.stream) (λ stream. stream) IsSmall rows_of _
+            (p.split.streams ∙ sym (map-id _)) (All-filter (λ stream. not (p.split.is_quiet stream)) IsSmall
+            (streams_of frames)
+            (All-from_recursion IsSmall (streams_of frames) (streams-streams_of 0 frames p.orderly))) k d l;
         within = own.within;
-        orderly = rw own.frames (orderly-of row.stream frames o);
-        acknowledged = rw own.frames (acknowledged-of row.stream frames streams.changes a);
+        orderly = rw own.frames (orderly-of row.stream frames p.orderly);
+        acknowledged = rw (own.frames, same) (acknowledged-of row.stream frames streams.of.now.changes.items
+            p.acknowledged);
       }
 
-  few-rows : length streams.split.now.rows.items < 2 ^ 32
+  few-rows : length rows_of < 2 ^ 32
   few-rows =
-      let rows = length-rows frames_shown streams.changes streams.frames.now streams.split.now s in
-      let frames = length-orderly 0 streams.frames.now (omega arith) o in
+      let of = streams.of.now in
+      let rows = length-rows frames_shown of.changes.items of.frames.now of.split p.split in
+      let frames = length-orderly 0 of.frames.now (omega arith) p.orderly in
       omega (arith, rows, frames)
 
-ready-one : (frames_shown : Bool) (connection : Prepared) (streams : Streams) → IsPrepared frames_shown connection
-    → IsStreamsOf connection streams → IsReady streams
-ready-one frames_shown connection streams p is =
-    let orderly : IsOrderly streams.frames.now = rw is.frames p.orderly in
-    let acknowledged : AreAcknowledged streams.frames.now streams.changes =
-    rw (is.frames, is.changes) p.acknowledged in
-    let split : IsSplit frames_shown streams.changes streams.frames.now streams.split.now =
-    rw (is.frames, is.changes, is.split) p.split in
-    record {
-      changes = rw is.changes p.changes_orderly;
-      rows = rows-are streams orderly acknowledged frames_shown split;
-      counted = few-rows streams orderly acknowledged frames_shown split;
-    }
+  ready-one : IsReady streams
+  ready-one = record { changes = rw same p.changes_orderly; rows = rows-are; counted = few-rows }
 
-pub ready-each : (frames_shown : Bool) (connections : List Prepared) (streams : List Streams)
-    → All (IsPrepared frames_shown) connections → AllZip IsStreamsOf connections streams → All IsReady streams
-ready-each frames_shown connections streams p is =
-    zip-all (IsPrepared frames_shown) IsStreamsOf IsReady (ready-one frames_shown) connections streams p is
+module _ (frames_shown : Bool) (connections : List PerConnection) (streams : List Streams)
+    (begins : All (BeginsRounds frames_shown) connections) (are : AreStreamsOf connections streams) where
+  prepared-each : All (λ (streams : Streams). IsPrepared frames_shown streams.of.now) streams
+  prepared-each = all-alike (λ (streams : Streams). streams.of.now) (λ (one : PerConnection). one.prepared)
+      (IsPrepared frames_shown) streams connections are.of (λ n d l. (begins n d l).prepared)
+
+  pub ready-each : All IsReady streams
+  ready-each n d l = ready-one frames_shown (get_or streams n d) (prepared-each n d l) (are.changes n d l)
 
 -- ---- the stops that connections begin with are places
 
@@ -189,18 +193,12 @@ stop-place found None h is = tt
 stop-place found (Some place) h ((one, there, stopping, at), least) =
     rw at at (All-contains IsBelow found one h there)
 
-pub stops-are-places : (frames_shown : Bool) (connections : List Prepared) (found : List Findings)
-    (stops : List (Option ℕ)) → All (IsPrepared frames_shown) connections
-    → map findings_in found ≡ map found_before connections
-    → AllZip (λ (one : Findings) (stop : Option ℕ). IsFirstStop (findings_in one) stop) found stops
-    → All IsStop stops
-stops-are-places frames_shown connections found stops p e is =
-    zip-all (λ (one : Findings). All IsBelow (findings_in one))
-    (λ (one : Findings) (stop : Option ℕ). IsFirstStop (findings_in one) stop) IsStop
-    (λ one stop h first. stop-place (findings_in one) stop h first) found stops
-    (all-alike findings_in found_before (All IsBelow) found connections e
-    (All-weaker (IsPrepared frames_shown) (λ connection. All IsBelow (found_before connection))
-    (before-below frames_shown) connections p)) is
+pub stops-are-places : (frames_shown : Bool) (connections : List PerConnection)
+    → All (BeginsRounds frames_shown) connections → All IsStop (map stop_in connections)
+stops-are-places frames_shown connections begins = All-map IsStop stop_in connections (λ n d l.
+    let one = begins n d l in
+    stop-place (found_before (get_or connections n d).prepared) (get_or connections n d).stop
+    (before-below frames_shown (get_or connections n d).prepared one.prepared) (rw one.found at one.stop))
 
 -- ---- joined lists
 
@@ -263,9 +261,13 @@ reaches (Some place) stop h = let (s, is, low) = h place refl in rw is low
 
 -- ---- a settled round over connections that are ready
 
-module _ (frames_shown : Bool) (count : ℕ) (some : 1 ≤ count) (connections : List Prepared)
-    (found : List Findings) (ready : AreReady frames_shown connections found)
-    (settled : Settled (Vec ℕ Global)) (h : HaveSettledOver frames_shown count connections found settled) where
+pub stops-long : {frames_shown : Bool} {count : ℕ} {connections : List PerConnection} {settled : Settled (Vec ℕ Global)}
+    → StreamsHaveSettled frames_shown count connections settled → length settled.stops.items ≡ length connections
+stops-long {connections = connections} h = h.done.connections ∙ length-map connections stop_in
+
+module _ (frames_shown : Bool) (count : ℕ) (some : 1 ≤ count) (connections : List PerConnection)
+    (begins : All (BeginsRounds frames_shown) connections)
+    (settled : Settled (Vec ℕ Global)) (h : StreamsHaveSettled frames_shown count connections settled) where
   abbrev streams : List Streams
   streams = h.streams
 
@@ -281,13 +283,9 @@ module _ (frames_shown : Bool) (count : ℕ) (some : 1 ≤ count) (connections :
   abbrev stops : List (Option ℕ)
   stops = settled.stops.items
 
-  -- each part is of one of the connections
-  pub parts-inside : All (λ (part : Part (Vec ℕ Global)). part.connection < length connections) parts
-  parts-inside =
-      let as_many = AllZip-long IsStreamsOf connections streams h.of in
-      parts-within jobs h.opening settled (length connections) h.done
-      (All-map (λ (job : Job). job.connection < length connections) (job_of frames_shown streams) plan
-      (λ n d l. let own = (planned count some streams n d l).connection in omega arith))
+  as_many : length streams ≡ length connections
+  as_many = as-many (λ (streams : Streams). streams.of.now) (λ (one : PerConnection). one.prepared) streams connections
+      h.of.of
 
   part-tells : (n : ℕ) (part : Part (Vec ℕ Global)) (job : StreamJob) → slice_get parts n ≡ Some part
       → slice_get plan n ≡ Some job → Tells stops (of_rows rows_opened streams) part job
@@ -311,17 +309,22 @@ module _ (frames_shown : Bool) (count : ℕ) (some : 1 ≤ count) (connections :
 
   -- ---- one of the connections
 
-  module _ (n : ℕ) (one : Prepared) (there : slice_get connections n ≡ Some one) where
-    abbrev frames : List Frame
-    frames = one.frames.now
+  module _ (n : ℕ) (one : PerConnection) (l : n < length connections) where
+    abbrev before : PerConnection
+    before = get_or connections n one
 
-    is_prepared : IsPrepared frames_shown one
-    is_prepared = rw (get_or_from_slice_get connections n one one there)
-        at (ready.prepared n one (slice_get_within connections n one there))
+    abbrev of : Prepared
+    of = before.prepared
+
+    abbrev frames : List Frame
+    frames = of.frames.now
+
+    is_prepared : IsPrepared frames_shown of
+    is_prepared = (begins n one l).prepared
 
     -- the streams of its rows
     abbrev row_streams : List ℕ
-    row_streams = map (λ (row : StreamRow). row.stream) one.split.rows.items
+    row_streams = map (λ (row : StreamRow). row.stream) of.split.rows.items
 
     -- what is said of its jobs is said of the streams of its rows, each from its frames and all changes
     of-streams : {X : Type 0} (said : ℕ → List Frame → List Change → List X)
@@ -329,23 +332,29 @@ module _ (frames_shown : Bool) (count : ℕ) (some : 1 ≤ count) (connections :
         (row_frames streams row) streams.changes) rows) streams) n) plan
         ≡ flat_map (λ stream. said stream (frames_of stream frames) (changes_of frames)) row_streams
     of-streams said =
-        let (own, at, is) = zip-at IsStreamsOf connections streams n one h.of there in
+        let m : n < length streams = omega (arith, as_many) in
+        let own = get_or streams n (some_of streams n m) in
+        let is : own.of.now ≡ of = sym (get_or-map (λ (streams : Streams). streams.of.now) streams n
+        (some_of streams n m) of m) ∙ ap (λ all. get_or all n of) h.of.of
+        ∙ get_or-map (λ (one : PerConnection). one.prepared) connections n one of l in
         let of_row = λ (row : StreamRow). said row.stream (row_frames own row) own.changes in
-        let rows = own.split.now.rows.items in
+        let rows = own.of.now.split.rows.items in
         let each = λ (streams : Streams) (rows : List StreamRow). flat_map (λ (row : StreamRow). said row.stream
         (row_frames streams row) streams.changes) rows in
+        let at = slice_get-get_or streams n (some_of streams n m) m in
         let joined : flat_map (λ (range : ℕ × ℕ). of_rows each streams (job_at n range)) (groups_of count own)
         ≡ flat_map of_row rows =
         rw at (flat_map-flat_map of_row (λ (range : ℕ × ℕ). between range.0 range.1 rows) (groups_of count own)
         ∙ ap (flat_map of_row) (groups-joined rows count some)) in
-        let changes : own.changes ≡ changes_of frames = is.changes ∙ is_prepared.changes in
+        let changes : own.changes ≡ changes_of frames = h.of.changes n (some_of streams n m) m
+        ∙ ap (λ (of : Prepared). of.changes.items) is ∙ is_prepared.changes in
         let streamed : flat_map of_row rows
         ≡ flat_map (λ stream. said stream (frames_of stream frames) (changes_of frames)) row_streams =
-        rw (is.frames, is.split, changes)
-        (flat_map-by (λ (row : StreamRow). said row.stream (frames_at frames (row_positions one.split row))
+        rw (is, changes)
+        (flat_map-by (λ (row : StreamRow). said row.stream (frames_at frames (row_positions of.split row))
         (changes_of frames)) (λ stream. said stream (frames_of stream frames) (changes_of frames))
-        (λ (row : StreamRow). row.stream) one.split.rows.items
-        (λ k d l. ap (λ met. said (get_or one.split.rows.items k d).stream met (changes_of frames))
+        (λ (row : StreamRow). row.stream) of.split.rows.items
+        (λ k d l. ap (λ met. said (get_or of.split.rows.items k d).stream met (changes_of frames))
         (is_prepared.split.each k d l).frames)) in
         of-plan (of_rows each streams) n count 0 n streams own at (omega arith) ∙ joined ∙ streamed
 
@@ -363,11 +372,11 @@ module _ (frames_shown : Bool) (count : ℕ) (some : 1 ≤ count) (connections :
         is_prepared.changes split.quiet)
 
     -- the openings that its parts and its split tell are all, up to the stop
-    agree-all : AgreeWithin (stop_of stops n) (numbers_told n parts ++ one.split.opened.items)
+    agree-all : AgreeWithin (stop_of stops n) (numbers_told n parts ++ of.split.opened.items)
         (openings_of frames (streams_of frames))
     agree-all number e =
         let split = is_prepared.split in
-        let quiet = one.split.opened.items in
+        let quiet = of.split.opened.items in
         let stop = stop_of stops n in
         let told = flat_map (of_connection (of_rows rows_opened streams) n) plan in
         let others = filter (λ stream. not (split.is_quiet stream)) (streams_of frames) in
@@ -384,58 +393,58 @@ module _ (frames_shown : Bool) (count : ℕ) (some : 1 ≤ count) (connections :
         ∙ ap (λ l. openings_of frames others ++ l) rest)
         ∙ agree-parted frames stop split.is_quiet (streams_of frames) number e
 
-    -- what is left of it
-    is-after : IsLeast (StopsAt (found_before one)) (stop_of h.opening n) → (last : List Finding) (opened : List ℕ)
-        → last ≡ found_before one ++ findings_of_parts n (map part_of parts)
-        → IsInOrder (numbers_told n parts ++ one.split.opened.items) opened
-        → IsAfterStreams frames_shown frames last (stop_of stops n) opened
-    is-after least last opened e order =
-        let merges = board_merges_lem (record { jobs = jobs; opening_stops = h.opening })
-        (board_with (map part_of parts) h.done.seen h.done.lowered stops) h.done.board n (found_before one) least in
-        record {
-          cut = rw (e, ← shows) merges.findings;
-          least = rw (← shows) merges.stop;
-          kept = rw e merges.kept_stop;
-          opened_within = λ number e. sym (list_any-IsPermutation (λ one. one == number) _ opened order.same)
-              ∙ agree-all number e;
-          rising = order.rising;
-        }
+    -- what is left of it, as it was closed, and as it then took the parts
+    is-after : (closed after : PerConnection)
+        → IsClosed (stop_of stops n) (before.opened.items ++ numbers_told n parts) before closed
+        → HasTaken (map part_of parts) n closed after
+        → (after.prepared ≡ of) × IsAfterStreams frames_shown frames (findings_in after.found) after.stop
+        after.opened.items × IsStop after.stop
+    is-after closed after is taken =
+        let begun = begins n one l in
+        let found : findings_in after.found ≡ found_before of ++ findings_of_parts n (map part_of parts) =
+        taken.found ∙ ap (λ (one : PerConnection). findings_in one.found ++ findings_of_parts n (map part_of parts))
+        is.same ∙ ap (λ found. found ++ findings_of_parts n (map part_of parts)) begun.found in
+        let stop : after.stop ≡ stop_of stops n =
+        ap (λ (one : PerConnection). one.stop) taken.same ∙ ap (λ (one : PerConnection). one.stop) is.same in
+        let opened : after.opened ≡ closed.opened = ap (λ (one : PerConnection). one.opened) taken.same in
+        let told : IsInOrder (numbers_told n parts ++ of.split.opened.items) closed.opened.items =
+        rw begun.none_opened at is.opened in
+        let least : IsLeast (StopsAt (found_before of)) (stop_of (map stop_in connections) n) =
+        rw (get_or-map stop_in connections n one None l) (rw begun.found at begun.stop) in
+        let merges = board_merges_lem (record { jobs = jobs; opening_stops = map stop_in connections })
+        (board_with (map part_of parts) h.done.seen h.done.lowered stops) h.done.board n (found_before of) least in (
+          ap (λ (one : PerConnection). one.prepared) taken.same
+              ∙ ap (λ (one : PerConnection). one.prepared) is.same,
+          rw (stop, opened) (record {
+            cut = rw (found, ← shows) merges.findings;
+            least = rw (← shows) merges.stop;
+            kept = rw found merges.kept_stop;
+            opened_within = λ number e. sym (list_any-IsPermutation (λ one. one == number) _ closed.opened.items
+                told.same) ∙ agree-all number e;
+            rising = told.rising;
+          }),
+          rw stop (h.done.places n None (omega (arith, stops-long h))),
+        )
 
   -- ---- all connections
 
-  as_many : length found ≡ length connections
-  as_many = as-many findings_in found_before found connections ready.before
-
-  found-at : (n : ℕ) (list : Findings) (connection : Prepared) → n < length connections
-      → findings_in (get_or found n list) ≡ found_before (get_or connections n connection)
-  found-at n list connection l =
-      let a = as_many in
-      sym (get_or-map findings_in found n list [] (omega arith)) ∙ ap (λ lists. get_or lists n []) ready.before
-      ∙ get_or-map found_before connections n connection [] l
-
-  pub are-after : (last : List Findings) (opened : List (Vec ℕ Global)) → length last ≡ length found
-      → ((n : ℕ) (list list' : Findings) → n < length found
-      → findings_in (get_or last n list)
-      ≡ findings_in (get_or found n list') ++ findings_of_parts n (map part_of parts))
-      → length opened ≡ length connections
-      → ((n : ℕ) (list : Vec ℕ Global) (connection : Prepared) → n < length connections
-      → IsInOrder (numbers_told n parts ++ (get_or connections n connection).split.opened.items)
-      (get_or opened n list).items)
-      → AreAfterStreams frames_shown connections last stops opened
-  are-after last opened lasts kept opens orders =
-      let a = as_many in
-      let b = h.done.connections ∙ AllZip-long _ found h.opening h.first in
+  pub are-after : (closed all : List PerConnection) → AreClosed parts stops connections closed
+      → AreGathered (map part_of parts) closed all → AreThroughStreams frames_shown connections all
+  are-after closed all are taken =
+      let long = are.number in
+      let longer = taken.number in
+      let each : (n : ℕ) (after one : PerConnection) (l : n < length connections) → _ =
+      λ n after one l. is-after n one l (get_or closed n one) (get_or all n after) (are.each n one one l)
+      (taken.each n one after (omega (arith, long))) in
       record {
-        founds = lasts ∙ a;
-        number = b ∙ a;
-        opens = opens;
-        each = λ n connection list stop numbers l.
-            let m : n < length found = omega arith in
-            let before = found-at n list connection l in
-            let first = zip-get (λ (one : Findings) (stop : Option ℕ). IsFirstStop (findings_in one) stop) found
-            h.opening n list None h.first m in
-            rw (get_or_default stops n stop None (omega arith)) (is-after n (get_or connections n connection)
-            (slice_get-get_or connections n connection l) (rw before at first) (findings_in (get_or last n list))
-            (get_or opened n numbers).items (rw before at (kept n list list m)) (orders n numbers connection l));
-        places = h.done.places;
+        same = maps-each (λ (one : PerConnection). one.prepared) (λ (one : PerConnection). one.prepared) all connections
+            (longer ∙ long) (λ n after one l. (each n after one l).0);
+        each = λ n after l.
+            let m : n < length connections = omega (arith, long, longer) in
+            let is = each n after (some_of connections n m) m in
+            record {
+              prepared = rw is.0 (begins n (some_of connections n m) m).prepared;
+              after = rw is.0 is.1;
+              place = is.2;
+            };
       }

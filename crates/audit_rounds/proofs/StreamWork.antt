@@ -1,14 +1,11 @@
--- What is made of one stream, of several, and of a job.
+-- What is made of one stream, and of several.
 use Rattle.audit_rounds.proofs.Words.{◌≡◌, ℕ, ◌-◌, ◌^◌, ◌≤◌, ◌⊎◌, inl, inr, min, ⊎_elim, Bool, List, [], ◌∷◌, ◌++◌, All}
 use Rattle.audit_rounds.proofs.Words.{get_or, append-nil, append_assoc, Option, Some, None, refl, sym, ap, arith}
 use Rattle.audit_rounds.proofs.Words.{option_to_list, All-contains, All-append, All-nil, Contains-append_left, Finding}
 use Rattle.audit_rounds.proofs.Words.{in_order, Asked, IsRun, place_number, opened_up_to, IsPast, whole_is_cut_lem}
 use Rattle.audit_rounds.proofs.Words.{RunLooks, Result, Ok, Err, IfOk, Frame, IsOrderly, shown, stream_run, Reaches}
 use Rattle.audit_rounds.proofs.Words.{stream_at_end, StreamRow, frames_at, Streams, lesser_place, IsWork, IsRow}
-use Rattle.audit_rounds.proofs.Words.{RowsLook}
-use Rattle.audit_rounds.proofs.Words.{row_shown, row_opened, rows_shown, rows_opened, ◌<◌, take, drop, length, map}
-use Rattle.audit_rounds.proofs.Words.{slice_get, slice_get-get_or, get_or_from_slice_get, All-take, All-drop, Job}
-use Rattle.audit_rounds.proofs.Words.{IsCut, StreamJob, AreOpenedUpTo, length-map, IsJobOf, IsReady, job_of}
+use Rattle.audit_rounds.proofs.Words.{RowsLook, row_shown, row_opened, rows_shown, rows_opened}
 use Rattle.std.proofs.lemmas.Bool.{cases_lt}
 use Rattle.std.proofs.lemmas.List.{flat_map_more}
 use Rattle.std.proofs.lemmas.List.Elements.{All-contains_itself, Contains-append_right}
@@ -19,9 +16,7 @@ use Rattle.stream_credit.specs.declared.stream_parts.StreamRun.{StreamRun}
 use Rattle.stream_credit.specs.code.Looks.{step_numbers}
 use Rattle.split_merge.specs.code.Split.{row_positions}
 use Rattle.audit_rounds.specs.code.Streams.{RowLooks}
-use Rattle.audit_rounds.specs.code.StreamJobs.{JobLooks, Makes}
-use Rattle.audit_rounds.specs.declared.stream_jobs.StreamsRound.{StreamsRound}
-use Rattle.audit_rounds.proofs.Jobs.{run-heeds, upto-cut, job-is}
+use Rattle.audit_rounds.proofs.Jobs.{run-heeds, upto-cut}
 use Rattle.audit_rounds.proofs.Openings.{agree-append, agree-opened, agree-reached}
 use Rattle.audit_rounds.proofs.StreamOrder.{shown-ordered}
 
@@ -171,7 +166,7 @@ module _ {L : Type 0} (answers : L → List Finding → Option ℕ → L → Typ
     -- what a run of a row's stream leaves
     module _ (row : StreamRow) (positions : List ℕ) (before after : L) where
       abbrev frames : List Frame
-      frames = frames_at streams.frames.now positions
+      frames = frames_at streams.of.now.frames.now positions
 
       abbrev whole : List Finding
       whole = shown frames_shown (stream_run row.stream frames streams.changes)
@@ -180,7 +175,7 @@ module _ {L : Type 0} (answers : L → List Finding → Option ℕ → L → Typ
       opening = (stream_at_end row.stream frames streams.changes).life.opened
 
       pub row-work : {E : Type 0} (r : Result StreamRun E) → IsRow streams row
-          → positions ≡ row_positions streams.split.now row
+          → positions ≡ row_positions streams.of.now.split row
           → IfOk r (λ run. IsRun answers before after (step_numbers row.stream frames streams.changes) whole
           run.findings.items run.upto run.last_look run.looks)
           → IfOk r (λ run. run.opened_at ≡ opened_up_to run.upto opening)
@@ -192,70 +187,3 @@ module _ {L : Type 0} (answers : L → List Finding → Option ℕ → L → Typ
           rw e at (work-of_run answers before after (step_numbers row.stream frames streams.changes) whole
           run.findings.items run.upto run.last_look run.looks opening run.opened_at
           (shown-ordered row.stream is_row.in_range frames_shown frames streams.changes orderly) h k n)
-
--- ---- a job
-
--- the rows of a job
-abbrev pub rows_in : StreamJob → List StreamRow → List StreamRow
-rows_in job rows = take (job.to - job.from) (drop job.from rows)
-
-abbrev pub no_job : StreamJob
-no_job = record { connection = 0; from = 0; to = 0 }
-
-module _ (round : StreamsRound) (number : ℕ)
-    (inside : number < length (map (job_of round.frames_shown round.connections.now) round.plan.now)) where
-  abbrev connections : List Streams
-  connections = round.connections.now
-
-  abbrev job : StreamJob
-  job = get_or round.plan.now number no_job
-
-  -- the job is in the plan
-  pub job-planned : IsJobOf connections job
-  job-planned =
-      let long = length-map round.plan.now (job_of round.frames_shown connections) in
-      round.planned number no_job (omega arith)
-
-  module _ (streams : Streams) where
-    abbrev mine : Streams
-    mine = get_or connections job.connection streams
-
-    there : slice_get connections job.connection ≡ Some mine
-    there = slice_get-get_or connections job.connection streams job-planned.connection
-
-    -- its streams may be gone through
-    pub job-ready : IsReady mine
-    job-ready = round.ready job.connection streams job-planned.connection
-
-    module _ (rows : List StreamRow) (same : rows ≡ mine.split.now.rows.items) where
-      -- it ends within the rows
-      pub job-ends : job.to ≤ length rows
-      job-ends = rw same (job-planned.within mine there)
-
-      pub job-rows : All (IsRow mine) (rows_in job rows)
-      job-rows = All-take (IsRow mine) (job.to - job.from) (drop job.from rows)
-          (All-drop (IsRow mine) job.from rows (rw same job-ready.rows))
-
-      -- what a run of the rows kept is a cut of the job
-      pub job-cut : (one : Job) (upto : Option ℕ) (kept : List Finding)
-          → slice_get (map (job_of round.frames_shown connections) round.plan.now) number ≡ Some one
-          → IsCut (rows_shown round.frames_shown mine (rows_in job rows)) upto kept → IsCut one.findings upto kept
-      job-cut one upto kept is cut =
-          rw (job-is (job_of round.frames_shown connections) round.plan.now number one no_job is, there, ← same) cut
-
-      -- the openings that it tells are the job's
-      pub job-makes : (upto : Option ℕ) (made : List ℕ) → AreOpenedUpTo upto made (rows_opened mine (rows_in job rows))
-          → Makes connections round.plan.now number upto made
-      job-makes upto made opens own is =
-          rw (← get_or_from_slice_get round.plan.now number own no_job is, there, ← same) opens
-
-      -- the looks of the rows are those of the job
-      pub job-looks : (asked : List Asked) (upto : Option ℕ)
-          → RowsLook round.frames_shown mine (rows_in job rows) asked upto
-          → JobLooks round.frames_shown connections round.plan.now number asked upto
-      job-looks asked upto looks own other is at =
-          let same_job : job ≡ own = get_or_from_slice_get round.plan.now number own no_job is in
-          let at_job : slice_get connections job.connection ≡ Some other = rw same_job at in
-          let got = there in
-          let same_streams : mine ≡ other = cc in
-          rw (← same_job, ← same_streams, ← same) looks

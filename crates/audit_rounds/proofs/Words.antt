@@ -3,9 +3,9 @@ pub use Rattle.std.proofs.Common.{◌≡◌, ℕ, ◌<◌, ◌≤◌, Bool, true
 pub use Rattle.std.proofs.Common.{drop, length, get_or, refl, sym, ap, ◌∙◌, subst, arith, Bor, Vec, Global, not, ◌==◌}
 pub use Rattle.std.proofs.Common.{◌||◌, ◌&&◌, ◌++◌, filter, append_assoc, append-nil, ◌+◌, All, Option, Some, None}
 pub use Rattle.std.proofs.Common.{slice_get, set, zero, suc, ◌*◌, ◌-◌, ◌^◌, flat_map, ◌⊎◌, inl, inr, min, Contains, pos}
-pub use Rattle.std.proofs.Common.{is_none, get_or-set_other, ⊎_elim, leb, rules, length-set}
+pub use Rattle.std.proofs.Common.{is_none, ⊎_elim, leb, rules, length-set}
 pub use Rattle.std.proofs.Math.Seq.{get_or-append_seam}
-pub use Rattle.std.proofs.lemmas.Bool.{ne_eqb}
+pub use Rattle.std.proofs.lemmas.Bool.{ne_eqb, eq-eqb}
 pub use Rattle.std.proofs.lemmas.Bool.Decides.{nat_tests}
 pub use Rattle.std.proofs.lemmas.Grind.{flat_map-append}
 pub use Rattle.std.proofs.lemmas.List.{take-append-drop, length-map, get_or-map, nil_from_length, take_more}
@@ -17,44 +17,39 @@ pub use Rattle.std.proofs.lemmas.List.Sorted.{list_any-IsPermutation}
 pub use Rattle.std.proofs.lemmas.List.Sums.{sum_by-cons, sum_by_more}
 pub use Rattle.std.proofs.lemmas.Option.{slice_get_within, get_or_from_slice_get, slice_get-get_or}
 pub use Rattle.std.proofs.lemmas.Result.{IfOk-at_ok, IfOk-weaker}
-pub use Rattle.std.proofs.lemmas.Slice.Zip.{AllZip-long}
-pub use Rattle.std.specs.List.{list_any, sum_by, zip, AllByRecursion, AllZip}
+pub use Rattle.std.specs.List.{list_any, sum_by, AllByRecursion}
 pub use Rattle.std.specs.List.Sorted.{IsPermutation}
 pub use Rattle.std.specs.Option.{option_to_list}
 pub use Rattle.std.specs.Prelude.{Result, Ok, Err, IfOk}
 pub use Rattle.std.specs.Vec.Iter.{into_iter_items}
 pub use Rattle.audit_terms.proofs.OrderlyFrames.{length-orderly, drop-at}
-pub use Rattle.audit_core.proofs.StreamsMet.{streams_met_lem}
+pub use Rattle.audit_terms.proofs.StreamsMet.{streams_met_lem}
 pub use Rattle.audit_core.specs.laws.Parts.{joined}
-pub use Rattle.audit_rounds.specs.code.AfterStreams.{AreAfterStreams, HaveSettled}
 pub use Rattle.audit_rounds.specs.code.Batch.{IsBatch, AreReady}
-pub use Rattle.audit_rounds.specs.code.Blocks.{IsSum, AreSums, wholes, IsShort, AreShort, blocks_of_connection}
+pub use Rattle.audit_rounds.specs.code.Blocks.{IsSum, AreSums, IsShort, AreShort, blocks_of_connection}
 pub use Rattle.audit_rounds.specs.code.Blocks.{AddsBlocks}
-pub use Rattle.audit_rounds.specs.code.Rests.{AreRests, IsRest}
-pub use Rattle.audit_rounds.specs.code.EarlyStops.{front_of, IsEarly}
-pub use Rattle.audit_rounds.specs.code.Few.{RowsAreFew}
-pub use Rattle.audit_rounds.specs.code.MadeReady.{AreMadeReady}
-pub use Rattle.audit_rounds.specs.code.Opened.{numbers_told, IsInOrder}
+pub use Rattle.audit_rounds.specs.code.Few.{FramesAreFew, RowsAreFew}
+pub use Rattle.audit_rounds.specs.code.Gathered.{AreEach, HasTaken, IsClosed, IsInOrder, numbers_told}
+pub use Rattle.audit_rounds.specs.code.PerConnection.{BeginsRounds, IsThroughStreams, rest_of, wholes}
 pub use Rattle.audit_rounds.specs.code.Openings.{openings_of}
 pub use Rattle.audit_rounds.specs.code.Plans.{sum_job, block_job, whole_shown, shown_at, IsPlan, where_of}
 pub use Rattle.audit_rounds.specs.code.Prepared.{IsPrepared, found_before}
-pub use Rattle.audit_rounds.specs.code.Remaining.{IsRemaining, AreRemaining, AreGoneThrough}
 pub use Rattle.audit_rounds.specs.code.Shown.{streams_shown, blocks_shown}
 pub use Rattle.audit_rounds.specs.code.StreamJobs.{IsReady, IsJobOf, job_of, job_at, of_rows, plan_from}
-pub use Rattle.audit_rounds.specs.code.StreamRound.{IsStreamsOf}
-pub use Rattle.audit_rounds.specs.code.Streams.{IsRow, rows_opened, AreOpenedUpTo, RowsLook, rows_shown, IsWork}
+pub use Rattle.audit_rounds.specs.code.StreamRound.{AreStreamsOf}
+pub use Rattle.audit_rounds.specs.code.Streams.{IsRow, rows_opened, RowsLook, rows_shown, IsWork}
 pub use Rattle.audit_rounds.specs.code.Streams.{row_shown, row_opened}
 pub use Rattle.audit_rounds.specs.code.Within.{AgreeWithin, IsAfterStreams, frames_within}
 pub use Rattle.audit_rounds.specs.declared.block_plans.ReadyBlock.{ReadyBlock}
 pub use Rattle.audit_rounds.specs.declared.connection_blocks.ConnectionBlock.{ConnectionBlock}
-pub use Rattle.audit_rounds.specs.declared.{prepared.MadeReady.MadeReady, prepared.Prepared.Prepared}
+pub use Rattle.audit_rounds.specs.declared.{per_connection.PerConnection.PerConnection, prepared.Prepared.Prepared}
 pub use Rattle.audit_rounds.specs.declared.{stream_jobs.StreamJob.StreamJob, connection_streams.Streams.Streams}
 pub use Rattle.audit_rounds.specs.laws.Settling.{Reaches}
 pub use Rattle.audit_terms.proofs.FindingOrder.{comes_after_is, in_order-append_left}
 pub use Rattle.audit_terms.proofs.OrderedLists.{ordered-in_order, in_order-append, in_order-ordered}
 pub use Rattle.audit_terms.proofs.SaidPlaces.{at-in_order, AreFrom, from-at, from-from, from-append, precedes-at}
 pub use Rattle.audit_terms.specs.Connection.{connection_said, connection_start, connection_after}
-pub use Rattle.audit_terms.specs.Finding.{stops, shown, in_order, upto_stop, is_shown, comes_after}
+pub use Rattle.audit_terms.specs.Finding.{shown, in_order, upto_stop, is_shown, comes_after}
 pub use Rattle.audit_terms.specs.Frame.{promised_by, meets, is_ack, is_headers}
 pub use Rattle.audit_terms.specs.InForce.{change_of, settings_said, InForce, in_force_after, initial_in_force, taken}
 pub use Rattle.audit_terms.specs.LocalFault.{local_said, no_previous, previous_after}
@@ -64,7 +59,7 @@ pub use Rattle.audit_terms.specs.Sides.{side_of}
 pub use Rattle.audit_terms.specs.Stream.{idle_stream, stream_said, stream_after}
 pub use Rattle.audit_terms.specs.code.Stops.{IsFirstStop, IsLeast, StopsAt, lesser_place}
 pub use Rattle.audit_terms.specs.code.runs.Blocks.{block_run, connection_after_all}
-pub use Rattle.audit_terms.specs.code.runs.Changes.{AreAcknowledged, changes_of, settings_run, settings_run_from}
+pub use Rattle.audit_terms.specs.code.runs.Changes.{changes_of, settings_run, settings_run_from}
 pub use Rattle.audit_terms.specs.code.runs.LocalFaults.{local_run, local_run_from}
 pub use Rattle.audit_terms.specs.code.runs.Look.{is_past, Asked, IsRun}
 pub use Rattle.audit_terms.specs.code.runs.Orderly.{IsOrderly, IsOrderlyFrom}

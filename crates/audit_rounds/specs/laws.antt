@@ -2,4 +2,3 @@ pub mod Openings
 pub mod Items
 pub mod Rounds
 pub mod Settling
-pub mod EarlyStop

@@ -5,11 +5,11 @@ ghost use Rattle.std.specs.Prelude.{◌≡◌, ◌<◌, ◌≤◌, All, IfOk, le
 ghost use Rattle.std.specs.Bool.{OnTrue};
 ghost use Rattle.std.specs.Thread.{IsSync};
 ghost use Rattle.audit_terms.specs.code.runs.Orderly.{IsOrderly};
-ghost use Rattle.audit_rounds.specs.code.Batch.{AreJoined, AreShown, IsBatch};
+ghost use Rattle.audit_rounds.specs.code.Batch.{AreShown, IsBatch};
 
-use crate::division::{Division, LONG_FRAMES};
-use crate::fronts::fronts_first;
-use crate::shares::{first_share, total_frames};
+use crate::all_rounds::shown_of_each;
+use crate::division::Division;
+use crate::shares::{both, first_share, total_frames};
 use audit_terms::Frame;
 use split_merge::Findings;
 use std::alloc::AllocError;
@@ -52,58 +52,14 @@ fn are_short(workers: u32, connections: &[&[Frame]]) -> bool
     connections.iter().all(|frames| frames.len() <= most)
 }
 
-/// Is no connection divided? Then one thread audits one after the other.
-fn are_undivided(division: &Division, connections: &[&[Frame]]) -> bool {
-    connections
-        .iter()
-        .all(|frames| division.is_undivided(*frames))
-}
-
 /// Is it worth while to audit shares of these connections side by side?
-fn are_shared(workers: u32, division: &Division, connections: &[&[Frame]]) -> bool
+fn are_shared(workers: u32, connections: &[&[Frame]]) -> bool
     ensures { OnTrue result ((2 ≤ workers) × (2 ≤ length connections.now)) }
 {
     if workers < 2 || connections.len() < 2 {
         return false;
     }
-    if are_undivided(division, connections) {
-        return LONG_FRAMES <= total_frames(connections);
-    }
     SHARED_CONNECTIONS <= connections.len() && are_short(workers, connections)
-}
-
-/// What each connection shows, one audited after the other.
-fn one_by_one<R: Threads + Sync, G: Gate>(
-    team: &Team<'_, R, G>,
-    division: &Division,
-    connections: &[&[Frame]],
-) -> Result<Vec<Findings>, AllocError>
-    requires { IsBatch connections.now }
-    ensures { IfOk result (λ found. AreShown division.now.frames_shown connections.now found.items) }
-{
-    let mut all = Vec::with_capacity(team.alloc, connections.len())?;
-    let mut done = 0;
-    while done < connections.len() {
-        let (_, rest) = connections.split_at(done);
-        let (one, _) = rest.split_at(1);
-        let mut found = fronts_first(team, division, one)?;
-        all.append(&mut found)?;
-        done += 1;
-    }
-    Ok(all)
-}
-
-/// What the connections of a share and the rest show.
-fn both_shown(
-    one: Result<Vec<Findings>, AllocError>,
-    other: Result<Vec<Findings>, AllocError>,
-) -> Result<Vec<Findings>, AllocError>
-    ensures { AreJoined (λ shows connections found. AreShown shows connections found.items) one other result }
-{
-    let mut found = one?;
-    let mut more = other?;
-    found.append(&mut more)?;
-    Ok(found)
 }
 
 /// What each connection of a batch shows. Each worker but one has a share on a thread of its own; this thread starts
@@ -116,12 +72,8 @@ pub(crate) fn by_shares<R: Threads + Sync, G: Gate>(
     requires { IsBatch connections.now }
     ensures { IfOk result (λ found. AreShown division.now.frames_shown connections.now found.items) }
 {
-    if !are_shared(team.workers, division, connections) {
-        return if are_undivided(division, connections) {
-            one_by_one(team, division, connections)
-        } else {
-            fronts_first(team, division, connections)
-        };
+    if !are_shared(team.workers, connections) {
+        return shown_of_each(team, division, connections);
     }
     let (front, back) = first_share(team.workers, connections);
     // `join` passes on no contract of a closure that holds a team, which has a lifetime and an invariant.
@@ -154,5 +106,5 @@ pub(crate) fn by_shares<R: Threads + Sync, G: Gate>(
             by_shares(&team, division, back)
         },
     );
-    both_shown(one, other)
+    both(one, other)
 }

@@ -2,26 +2,27 @@
 //! them, each from the state to which the sums of the blocks before it lead.
 
 ghost use Rattle.std.specs.Prelude.{◌≡◌, ◌^◌, ◌<◌, All, IfOk, length, map};
-ghost use Rattle.audit_terms.specs.Connection.{connection_start};
+ghost use Rattle.audit_terms.specs.Finding.{shown};
+ghost use Rattle.audit_terms.specs.Pass.{pass};
+ghost use Rattle.split_merge.specs.code.Findings.{findings_in};
 ghost use Rattle.stop_desk.specs.code.Stop.{IsStop};
-ghost use Rattle.conn_scan.specs.code.Items.{IsBlock};
-ghost use Rattle.conn_scan.specs.code.Block.{BlockFits};
-ghost use Rattle.audit_rounds.specs.code.Blocks.{AreShort, AreSums, wholes};
-ghost use Rattle.audit_rounds.specs.code.Few.{RestsAreFew};
-ghost use Rattle.audit_rounds.specs.code.Plans.{IsPlan, shown_at};
-ghost use Rattle.audit_rounds.specs.code.Remaining.{AreGoneThrough, AreRemaining};
+ghost use Rattle.audit_rounds.specs.code.Blocks.{AreShort, AreSums};
+ghost use Rattle.audit_rounds.specs.code.Few.{FramesAreFew};
+ghost use Rattle.audit_rounds.specs.code.PerConnection.{IsThroughStreams, wholes};
+ghost use Rattle.audit_rounds.specs.code.Plans.{BlocksHaveSettled, IsPlan, shown_at};
 
 use crate::block_plans::{ReadyBlock, plan_of};
 use crate::block_round::{BlockRound, SumRound};
 use crate::connection_blocks::{ConnectionBlock, in_blocks};
 use crate::division::Division;
 use crate::gathering::{gathered, merged_each};
+use crate::per_connection::{PerConnection, stops_of};
 use audit_terms::Place;
-use conn_scan::{Block, ConnSum};
+use conn_scan::ConnSum;
 use split_merge::Findings;
 use std::alloc::{AllocError, Global};
 use std::thread::Threads;
-use stop_desk::{AuditRound, Gate, Part, Team, settle};
+use stop_desk::{AuditRound, Gate, Part, Settled, Team, settle};
 
 /// The summaries that parts hold.
 fn sums_in(alloc: Global, parts: &[Part<ConnSum>]) -> Result<Vec<ConnSum>, AllocError>
@@ -57,41 +58,53 @@ fn planned<'a, R: Threads + Sync, G: Gate>(
     team: &Team<'_, R, G>,
     division: &Division,
     stops: &[Option<Place>],
-    connections: &[Block<'a>],
+    connections: &'a [PerConnection<'_>],
 ) -> Result<Vec<ReadyBlock<'a>>, AllocError>
-    requires places { All IsStop stops.now }
-    requires number { length stops.now ≡ length connections.now }
-    requires whole { All IsBlock connections.now }
-    requires fits { All (BlockFits connection_start) (wholes connections.now) }
-    requires few { RestsAreFew connections.now }
+    requires stops { stops.now ≡ map (λ one. one.stop) connections.now }
+    requires through { All (IsThroughStreams division.now.frames_shown) connections.now }
+    requires few { FramesAreFew connections.now }
     ensures plan { IfOk result (λ plan. IsPlan division.now.frames_shown (length connections.now)
         (shown_at division.now.frames_shown 0 (wholes connections.now)) plan.items) }
     ensures few { IfOk result (λ plan. length plan.items < 2 ^ 32) }
 {
-    let blocks = in_blocks(team.alloc, division.block as usize, connections)?;
+    let blocks = in_blocks(team.alloc, division, connections)?;
     let blocks = blocks.as_slice();
     let sums = sums_of(team, division, stops, blocks)?;
     plan_of(team.alloc, division.frames_shown, blocks, sums.as_slice())
 }
 
-/// What was found of each connection, and what its blocks show, up to where it is known to stop.
-pub(crate) fn rounds_over_blocks<R: Threads + Sync, G: Gate>(
+/// What the blocks of connections show, up to where each is known to stop.
+fn settled_blocks<R: Threads + Sync, G: Gate>(
     team: &Team<'_, R, G>,
     division: &Division,
-    stops: &[Option<Place>],
-    connections: &[Block<'_>],
-    found: Vec<Findings>,
-) -> Result<Vec<Findings>, AllocError>
-    requires few { RestsAreFew connections.now }
-    requires remaining { AreRemaining connections.now stops.now found.items }
-    ensures { IfOk result (λ last. AreGoneThrough division.now.frames_shown connections.now found.items last.items) }
+    connections: &[PerConnection<'_>],
+) -> Result<Settled<()>, AllocError>
+    requires through { All (IsThroughStreams division.now.frames_shown) connections.now }
+    requires few { FramesAreFew connections.now }
+    ensures { IfOk result (BlocksHaveSettled division.now.frames_shown connections.now) }
 {
+    let stops = stops_of(team.alloc, connections)?;
+    let stops = stops.as_slice();
     let plan = planned(team, division, stops, connections)?;
     let round = BlockRound {
         plan: plan.as_slice(),
         frames_shown: division.frames_shown,
     };
-    let settled = settle(team, AuditRound::Blocks, stops, &round)?;
-    let found = gathered(found, settled.parts)?;
-    merged_each(team, found)
+    settle(team, AuditRound::Blocks, stops, &round)
+}
+
+/// What each connection shows, given what the round over streams left of it.
+pub(crate) fn rounds_over_blocks<R: Threads + Sync, G: Gate>(
+    team: &Team<'_, R, G>,
+    division: &Division,
+    connections: Vec<PerConnection<'_>>,
+) -> Result<Vec<Findings>, AllocError>
+    requires through { All (IsThroughStreams division.now.frames_shown) connections.items }
+    requires few { FramesAreFew connections.items }
+    ensures { IfOk result (λ last. map findings_in last.items
+        ≡ map (λ one. shown division.now.frames_shown (pass one.prepared.frames.now)) connections.entry.items) }
+{
+    let settled = settled_blocks(team, division, connections.as_slice())?;
+    let all = gathered(connections, settled.parts)?;
+    merged_each(team, all)
 }

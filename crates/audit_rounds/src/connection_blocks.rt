@@ -2,9 +2,12 @@
 
 ghost use Rattle.std.specs.Prelude.{◌^◌, ◌<◌, All, IfOk, OnOk, length};
 ghost use Rattle.conn_scan.specs.code.Items.{IsBlock};
-ghost use Rattle.audit_rounds.specs.code.Blocks.{AddsBlocks, AreBlocksOf, AreShort, wholes};
-ghost use Rattle.audit_rounds.specs.code.Few.{RestsAreFew};
+ghost use Rattle.audit_rounds.specs.code.Blocks.{AddsBlocks, AreBlocksOf, AreShort};
+ghost use Rattle.audit_rounds.specs.code.Few.{FramesAreFew};
+ghost use Rattle.audit_rounds.specs.code.PerConnection.{IsThroughStreams, wholes};
 
+use crate::division::Division;
+use crate::per_connection::PerConnection;
 use conn_scan::{Block, changes_not_below, numbers_not_below};
 use std::alloc::{AllocError, Global};
 
@@ -42,22 +45,22 @@ fn add_blocks<'a>(
     Ok(())
 }
 
-/// The frames of all connections in blocks of at most so many, one connection's after the other's.
+/// What is left of all connections in blocks, one connection's after the other's.
 pub(crate) fn in_blocks<'a>(
     alloc: Global,
-    size: usize,
-    connections: &[Block<'a>],
+    division: &Division,
+    connections: &'a [PerConnection<'_>],
 ) -> Result<Vec<ConnectionBlock<'a>>, AllocError>
-    requires size { 0 < size }
-    requires whole { All IsBlock connections.now }
-    requires few { RestsAreFew connections.now }
+    requires through { All (IsThroughStreams division.now.frames_shown) connections.now }
+    requires few { FramesAreFew connections.now }
     ensures of { IfOk result (λ blocks. AreBlocksOf (wholes connections.now) blocks.items) }
     ensures short { IfOk result (λ blocks. AreShort blocks.items) }
     ensures few { IfOk result (λ blocks. length blocks.items < 2 ^ 32) }
 {
     let mut blocks = Vec::new(alloc);
-    for (connection, whole) in connections.iter().enumerate() {
-        add_blocks(&mut blocks, size, connection, whole)?;
+    for (n, one) in connections.iter().enumerate() {
+        let whole = one.rest();
+        add_blocks(&mut blocks, division.block as usize, n, &whole)?;
     }
     Ok(blocks)
 }

@@ -2,42 +2,39 @@
 
 ghost use Rattle.std.specs.Prelude.{◌≡◌, ◌++◌, ◌<◌, IfOk, OnOk, All};
 ghost use Rattle.std.specs.Option.{option_to_list};
-ghost use Rattle.std.specs.List.{AllZip};
 ghost use Rattle.audit_terms.specs.code.Stops.{lesser_place};
 ghost use Rattle.audit_terms.specs.code.runs.Changes.{AreOrderly};
-ghost use Rattle.audit_rounds.specs.code.StreamRound.{IsStreamsOf};
+ghost use Rattle.audit_rounds.specs.code.StreamRound.{AreStreamsOf};
 ghost use Rattle.audit_rounds.specs.code.Streams.{IsRow, IsWork, RowLooks, RowsLook, row_shown, row_opened};
 ghost use Rattle.audit_rounds.specs.code.Streams.{rows_shown, rows_opened};
 
+use crate::per_connection::PerConnection;
 use crate::prepared::Prepared;
-use audit_terms::{Frame, Look, lesser_place, put_in_order};
-use split_merge::{SplitFrames, StreamRow};
+use audit_terms::{Look, lesser_place, put_in_order};
+use split_merge::StreamRow;
 use std::alloc::{AllocError, Global};
 use stop_desk::Work;
 use stream_credit::{Changes, StreamPart, StreamRun, stream_run};
 
-/// A connection's frames by stream, and the changes that settings bring to it.
+/// A connection's streams, and the changes that settings bring to them.
 #[derive(Drop)]
 pub(crate) struct Streams<'a> {
-    pub(crate) frames: &'a [Frame],
-    pub(crate) split: &'a SplitFrames,
+    pub(crate) of: &'a Prepared<'a>,
     pub(crate) changes: Changes<'a>,
 }
 
 /// The streams of each connection, with its changes made ready for them.
 pub(crate) fn streams_each<'a>(
     alloc: Global,
-    connections: &'a [Prepared<'_>],
+    connections: &'a [PerConnection<'_>],
 ) -> Result<Vec<Streams<'a>>, AllocError>
-    ensures { IfOk result (λ all. AllZip IsStreamsOf connections.now all.items) }
+    ensures { IfOk result (λ all. AreStreamsOf connections.now all.items) }
 {
     let mut all = Vec::new(alloc);
-    for connection in connections {
-        let changes = Changes::of(alloc, connection.changes.as_slice())?;
+    for one in connections {
         all.push(Streams {
-            frames: connection.frames,
-            split: &connection.split,
-            changes,
+            of: &one.prepared,
+            changes: Changes::of(alloc, one.prepared.changes.as_slice())?,
         })?;
     }
     Ok(all)
@@ -59,8 +56,8 @@ fn run_of_row<L: Look>(
 {
     let own = StreamPart {
         stream: row.stream,
-        frames: streams.frames,
-        positions: streams.split.positions_of(row),
+        frames: streams.of.frames,
+        positions: streams.of.split.positions_of(row),
     };
     stream_run(alloc, &own, &streams.changes, frames_shown, look)
 }

@@ -3,7 +3,6 @@
 ghost use Rattle.audit_rounds.specs.laws.Openings.{OpeningsAreFound};
 ghost use Rattle.audit_rounds.specs.laws.Items.{ItemsAreFound};
 ghost use Rattle.audit_rounds.specs.laws.Rounds.{RoundsMakePass};
-ghost use Rattle.audit_rounds.specs.laws.EarlyStop.{FrontsSettle};
 ghost use Rattle.audit_rounds.specs.laws.Settling.{RoundsSettle, OpeningsAreTold};
 
 /// What the rounds of a divided audit show makes what is shown of the pass, however the frames are divided into blocks.
@@ -33,11 +32,4 @@ pub fn items_are_found()
 /// each of which reached the stop, tell the openings up to the stop.
 pub fn openings_are_told()
     ensures { OpeningsAreTold }
-{}
-
-/// Where the pass over a front of the frames shows an error of the connection, the pass over all of them shows the
-/// same.
-#[tactic(auto, using(crate::proofs::EarlyStop::fronts_settle_lem))]
-pub fn fronts_settle()
-    ensures { FrontsSettle }
 {}

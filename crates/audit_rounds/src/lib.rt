@@ -2,6 +2,7 @@
 //! its frames shows (RFC 9113, 5.4.1), for every [`Division`] and every interleaving of the workers.
 //! docs/ARCHITECTURE.md has a table of the rounds, and says which connections need them ("How the work is divided").
 //!
+//! - What is known of a connection stands in one place (`per_connection`), and each round adds to it.
 //! - In the round over streams, a job is a group of a connection's streams, without the quiet ones, which the split
 //!   told apart. A job runs its streams one after the other, makes the looks that are due for each, and goes up to the
 //!   least of the places at which their runs stop (`IsWork` of `specs/code/Streams.antt`). Jobs and split together tell
@@ -21,8 +22,6 @@
 //!   blocks are those of the frames up to it, that frame included ([`laws::openings_are_told`]: the openings up to it
 //!   are known). A job of several streams goes up to the least of the places of its runs; what it found past that may
 //!   stay.
-//! - [`laws::fronts_settle`]: where the pass over a front shows an error of the connection, the pass over all of its
-//!   frames shows the same.
 //! - [`laws::openings_are_found`] and [`laws::items_are_found`]: the numbers that streams tell, and the changes, make
 //!   the items of the pass.
 //! - Refused by the prover, in the crates below: wrong looks and stops (`stop_desk`), runs of streams (`stream_credit`)
@@ -40,10 +39,9 @@ mod connection_blocks;
 mod connection_streams;
 mod division;
 mod entry;
-mod fronts;
 mod gathering;
 pub mod laws;
-mod pending;
+mod per_connection;
 mod prepared;
 mod shares;
 mod stream_jobs;

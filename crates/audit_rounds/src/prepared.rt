@@ -1,24 +1,27 @@
 //! Connections made ready for the rounds.
 
-ghost use Rattle.std.specs.Prelude.{◌≡◌, ◌<◌, Bool, [], ◌∷◌, ◌++◌, IfOk, OnOk, map};
+ghost use Rattle.std.specs.Prelude.{◌≡◌, ◌<◌, IfOk};
 ghost use Rattle.std.specs.Thread.{IsSync};
 ghost use Rattle.audit_terms.specs.code.runs.Orderly.{IsOrderly};
 ghost use Rattle.audit_terms.specs.code.runs.LocalFaults.{local_run};
-ghost use Rattle.split_merge.specs.code.Findings.{findings_in};
 ghost use Rattle.split_merge.specs.code.Split.{IsSplit};
-ghost use Rattle.audit_rounds.specs.code.Batch.{AreJoined, IsBatch};
-ghost use Rattle.audit_rounds.specs.code.MadeReady.{AddsReady, AreMadeReady};
+ghost use Rattle.audit_rounds.specs.code.Batch.{AreReady, IsBatch};
+ghost use Rattle.audit_rounds.specs.code.PerConnection.{BeginsRounds};
 ghost use Rattle.audit_rounds.specs.code.Prepared.{AreForSplit};
 
-use crate::division::{Division, LONG_FRAMES};
-use crate::shares::first_share;
+use crate::division::Division;
+use crate::per_connection::{PerConnection, first_stop_in};
+use crate::shares::{both, first_share};
 use audit_terms::{Change, Finding, Frame};
-use fault_rules::{Pairs, local_faults, pair};
+use fault_rules::{local_faults, pair};
 use input_output::TableHash;
 use split_merge::{Findings, SplitFrames, split};
 use std::alloc::{AllocError, Global};
 use std::thread::{Threads, join};
 use stop_desk::{Gate, Team};
+
+/// Several threads make a connection of so many frames or more ready. (Measured: bench/README.md, Thresholds.)
+const LONG_FRAMES: usize = 4_096;
 
 /// The frames of a connection, with what its rounds need beside them.
 #[derive(Drop)]
@@ -28,25 +31,6 @@ pub(crate) struct Prepared<'a> {
     pub(crate) changes: Vec<Change>,
     /// Its frames by stream, but for the quiet streams.
     pub(crate) split: SplitFrames,
-}
-
-/// Connections made ready, and what is found of each before the rounds: the faults of its single frames, then its
-/// unmatched acknowledgements.
-#[derive(Drop)]
-pub(crate) struct MadeReady<'a> {
-    pub(crate) prepared: Vec<Prepared<'a>>,
-    pub(crate) found: Vec<Findings>,
-}
-
-impl<'a> MadeReady<'a> {
-    /// None yet, with room for so many.
-    fn with_capacity(alloc: Global, connections: usize) -> Result<MadeReady<'a>, AllocError>
-        ensures { IfOk result (λ made. (frames_shown : Bool) → AreMadeReady frames_shown [] made) }
-    {
-        let prepared = Vec::with_capacity(alloc, connections)?;
-        let found = Vec::with_capacity(alloc, connections)?;
-        Ok(MadeReady { prepared, found })
-    }
 }
 
 /// The faults of single frames, and the frames by stream: side by side, where there are many frames and workers.
@@ -108,60 +92,32 @@ fn split_apart<R: Threads>(
     made
 }
 
-/// Adds a connection with what was made of it. Its findings are these faults, and those of its pairs.
-fn add_ready<'a>(
-    alloc: Global,
-    made: &mut MadeReady<'a>,
-    frames: &'a [Frame],
-    pairs: Pairs,
-    faults: Vec<Finding>,
-    split: SplitFrames,
-) -> Result<(), AllocError>
-    ensures { OnOk result ((made.new.prepared.items
-        ≡ made.old.prepared.items ++ record { frames = frames.entry; changes = pairs.changes; split = split } ∷ [])
-        × (map findings_in made.new.found.items
-        ≡ map findings_in made.old.found.items ++ (faults.items ++ pairs.findings.items) ∷ [])) }
-{
-    let mut found = Findings::of(alloc, faults)?;
-    found.add(pairs.findings)?;
-    made.found.push(found)?;
-    made.prepared.push(Prepared {
-        frames,
-        changes: pairs.changes,
-        split,
-    })?;
-    Ok(())
-}
-
-/// Makes one more connection ready.
+/// Makes a connection ready. The faults of its single frames are found, then its unmatched acknowledgements.
 fn prepare<'a, R: Threads + Sync, G: Gate>(
     team: &Team<'_, R, G>,
     division: &Division,
-    made: &mut MadeReady<'a>,
     frames: &'a [Frame],
-) -> Result<(), AllocError>
+) -> Result<PerConnection<'a>, AllocError>
     requires { IsOrderly frames.now }
-    ensures { OnOk result (AddsReady division.now.frames_shown frames.entry made.old made.new) }
+    ensures frames { IfOk result (λ one. one.prepared.frames.now ≡ frames.now) }
+    ensures ready { IfOk result (BeginsRounds division.now.frames_shown) }
 {
     let pairs = pair(team.alloc, frames)?;
     let (faults, split) = faults_and_split(team, division, pairs.changes.as_slice(), frames);
-    let faults = faults?;
+    let mut found = Findings::of(team.alloc, faults?)?;
     let split = split?;
-    add_ready(team.alloc, made, frames, pairs, faults, split)
-}
-
-/// The connections of a share and the rest, made ready.
-fn both_ready<'a>(
-    one: Result<MadeReady<'a>, AllocError>,
-    other: Result<MadeReady<'a>, AllocError>,
-) -> Result<MadeReady<'a>, AllocError>
-    ensures { AreJoined AreMadeReady one.entry other.entry result }
-{
-    let mut made = one?;
-    let mut more = other?;
-    made.prepared.append(&mut more.prepared)?;
-    made.found.append(&mut more.found)?;
-    Ok(made)
+    found.add(pairs.findings)?;
+    let stop = first_stop_in(&found);
+    Ok(PerConnection {
+        prepared: Prepared {
+            frames,
+            changes: pairs.changes,
+            split,
+        },
+        found,
+        stop,
+        opened: Vec::new(team.alloc),
+    })
 }
 
 /// Makes each connection ready, one after the other.
@@ -169,26 +125,25 @@ fn prepare_one_by_one<'a, R: Threads + Sync, G: Gate>(
     team: &Team<'_, R, G>,
     division: &Division,
     connections: &[&'a [Frame]],
-) -> Result<MadeReady<'a>, AllocError>
+) -> Result<Vec<PerConnection<'a>>, AllocError>
     requires { IsBatch connections.now }
-    ensures { IfOk result (AreMadeReady division.now.frames_shown connections.now) }
+    ensures { IfOk result (λ made. AreReady division.now.frames_shown connections.now made.items) }
 {
-    let mut made = MadeReady::with_capacity(team.alloc, connections.len())?;
+    let mut made = Vec::with_capacity(team.alloc, connections.len())?;
     for frames in connections {
-        prepare(team, division, &mut made, *frames)?;
+        made.push(prepare(team, division, *frames)?)?;
     }
     Ok(made)
 }
 
-/// Makes each connection ready, shares of them side by side where there are workers, and returns what is found of each
-/// before the rounds.
+/// Makes each connection ready, shares of them side by side where there are workers.
 pub(crate) fn prepare_each<'a, R: Threads + Sync, G: Gate>(
     team: &Team<'_, R, G>,
     division: &Division,
     connections: &[&'a [Frame]],
-) -> Result<MadeReady<'a>, AllocError>
+) -> Result<Vec<PerConnection<'a>>, AllocError>
     requires { IsBatch connections.now }
-    ensures { IfOk result (AreMadeReady division.now.frames_shown connections.now) }
+    ensures { IfOk result (λ made. AreReady division.now.frames_shown connections.now made.items) }
 {
     if team.workers == 1 || connections.len() < 2 {
         return prepare_one_by_one(team, division, connections);
@@ -199,9 +154,9 @@ pub(crate) fn prepare_each<'a, R: Threads + Sync, G: Gate>(
     let others = team.workers - 1;
     let (one, other) = join(
         rt,
-        || -> Result<MadeReady<'_>, AllocError>
+        || -> Result<Vec<PerConnection<'_>>, AllocError>
             requires { IsSync R.row × IsSync G.row × IsBatch front.now }
-            ensures { IfOk result (AreMadeReady division.entry.now.frames_shown front.entry.now) }
+            ensures { IfOk result (λ made. AreReady division.entry.now.frames_shown front.entry.now made.items) }
         {
             let team = Team {
                 rt,
@@ -211,9 +166,9 @@ pub(crate) fn prepare_each<'a, R: Threads + Sync, G: Gate>(
             };
             prepare_each(&team, division, front)
         },
-        || -> Result<MadeReady<'_>, AllocError>
+        || -> Result<Vec<PerConnection<'_>>, AllocError>
             requires { IsSync R.row × IsSync G.row × (0 < others) × IsBatch back.now }
-            ensures { IfOk result (AreMadeReady division.entry.now.frames_shown back.entry.now) }
+            ensures { IfOk result (λ made. AreReady division.entry.now.frames_shown back.entry.now made.items) }
         {
             let team = Team {
                 rt,
@@ -224,5 +179,5 @@ pub(crate) fn prepare_each<'a, R: Threads + Sync, G: Gate>(
             prepare_each(&team, division, back)
         },
     );
-    both_ready(one, other)
+    both(one, other)
 }

@@ -1,9 +1,10 @@
 //! The shares of a batch, which are audited side by side.
 
-ghost use Rattle.std.specs.Prelude.{◌≡◌, ◌≤◌, ◌++◌, length};
-ghost use Rattle.audit_rounds.specs.code.Batch.{IsBatch};
+ghost use Rattle.std.specs.Prelude.{◌≡◌, ◌≤◌, ◌++◌, IfOk, length};
+ghost use Rattle.audit_rounds.specs.code.Batch.{AreBoth, IsBatch};
 
 use audit_terms::Frame;
+use std::alloc::AllocError;
 
 /// How many frames connections have in all.
 pub(crate) fn total_frames(connections: &[&[Frame]]) -> usize {
@@ -33,4 +34,17 @@ pub(crate) fn first_share<'a, 'b>(
         count += 1;
     }
     connections.split_at(count)
+}
+
+/// What was made of a share, and behind it what was made of the rest.
+pub(crate) fn both<T: Drop>(
+    one: Result<Vec<T>, AllocError>,
+    other: Result<Vec<T>, AllocError>,
+) -> Result<Vec<T>, AllocError>
+    ensures { IfOk result (λ all. AreBoth one other all.items) }
+{
+    let mut all = one?;
+    let mut more = other?;
+    all.append(&mut more)?;
+    Ok(all)
 }

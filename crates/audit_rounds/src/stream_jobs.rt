@@ -58,7 +58,7 @@ pub(crate) fn stream_plan(
 {
     let mut plan = Vec::new(alloc);
     for (connection, streams) in connections.iter().enumerate() {
-        let rows = streams.split.rows.len();
+        let rows = streams.of.split.rows.len();
         add_groups(&mut plan, alloc, count, connection, rows)?;
     }
     Ok(plan)
@@ -101,7 +101,7 @@ impl Round for StreamsRound<'_> {
     ) -> Result<Work<Vec<u32>>, AllocError> {
         let job = &self.plan[job as usize];
         let streams = &self.connections[job.connection];
-        let rows = &streams.split.rows[job.from..job.to];
+        let rows = &streams.of.split.rows[job.from..job.to];
         run_of_rows(alloc, streams, rows, self.frames_shown, look)
     }
 }

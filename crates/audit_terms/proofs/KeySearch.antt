@@ -1,5 +1,5 @@
 -- What a search by halving answers, where keys are numbers.
-use Rattle.std.proofs.Common.{◌≡◌, ◌≢◌, ℕ, ◌<◌, List, length, subst, ⊎_elim, arith}
+use Rattle.std.proofs.Common.{◌≡◌, ◌≢◌, ℕ, ◌<◌, ◌-◌, List, ap, get_or, length, subst, sym, ⊎_elim, arith}
 use Rattle.std.{proofs.lemmas.Bool.cases_lt, proofs.lemmas.Option.slice_get_cases, proofs.lemmas.Grind.common_steps}
 use Rattle.std.{specs.List.HoldsAt, specs.List.All, specs.Ordering.nat_cmp, specs.Ordering.ordering_index}
 use Rattle.std.{specs.List.Sorted.IsNonDecreasingBy, specs.List.Sorted.IsPartitionPoint}
@@ -36,3 +36,12 @@ key_missed key rows n i search rising k d within =
     let parted = search (λ a b d le l. ranks_rise _ _ n (rising a b d le l)) in
     ⊎_elim (λ below. less_apart _ _ (parted.0 k d (omega arith) below))
     (λ above. greater_apart _ _ (parted.1 k d above within)) (cases_lt k i)
+
+-- where the last key is below one and keys never fall, none is the one
+pub past_apart : {Row : Type 0} (key : Row → ℕ) (rows : List Row) (n : ℕ) (last : Row)
+    → (0 < length rows) × ((d : Row) → last ≡ get_or rows (length rows - 1) d) → key last < n
+    → IsNonDecreasingBy key rows → All (λ row. key row ≢ n) rows
+past_apart key rows n last is past rising k d within same =
+    let most = rising k (length rows - 1) d (omega (arith, within)) (omega (arith, is.0)) in
+    let end : key (get_or rows (length rows - 1) d) ≡ key last = ap key (sym (is.1 d)) in
+    omega (arith, most, end, past, same)

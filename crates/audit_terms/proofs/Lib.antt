@@ -11,3 +11,5 @@ pub mod KeySearch
 pub mod SeenStreams
 pub mod LeastPlaces
 pub mod ShownFindings
+pub mod Pairs
+pub mod StreamsMet

@@ -1,2 +1,4 @@
 pub mod Credit
 pub mod Places
+pub mod Pairs
+pub mod Streams

@@ -6,3 +6,12 @@ ghost use Rattle.audit_terms.specs.laws.Places.{PlacesAreInOrder};
 pub fn places_are_in_order()
     ensures { PlacesAreInOrder }
 {}
+
+ghost use Rattle.audit_terms.specs.laws.Streams.{StreamsAreThoseMet, StreamsAreNamedOnce};
+
+/// The streams that the pass looks at are those other than 0 that its frames meet, each once.
+#[tactic(auto, using(crate::proofs::StreamsMet::streams_met_lem, crate::proofs::StreamsMet::streams_once_lem))]
+pub fn streams_are_those_met()
+    ensures met { StreamsAreThoseMet }
+    ensures once { StreamsAreNamedOnce }
+{}

@@ -56,8 +56,8 @@ impl Disorder {
         }
     }
 
-    /// Plans a connection of this client, from a turn on, whose sides send these frames. Of a lossy one some segments
-    /// are lost.
+    /// Plans a connection of this client, from a turn on, whose sides send these frames. A lossy one loses some
+    /// segments.
     pub fn plan(
         &mut self,
         client_port: u16,

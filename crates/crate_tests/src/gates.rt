@@ -28,8 +28,8 @@ fn has_jobs(
         && gate.counts() == Some(want)
 }
 
-/// Whether an audit by each of some numbers of workers has so many jobs in each round. One worker has none after that
-/// of the flows: it meets the frames one by one. Where credits are not shown it does so as segments come, and has none.
+/// Whether an audit by each of some numbers of workers has so many jobs in each round. One worker has none: it meets
+/// the frames one by one, as segments come.
 fn have_jobs(
     rt: &(impl Sync + Threads + RandomSource),
     alloc: Global,
@@ -37,8 +37,7 @@ fn have_jobs(
     capture: &Capture,
     want: [u32; 4],
 ) -> bool {
-    let alone = [if frames_shown { want[0] } else { 0 }, 0, 0, 0];
-    for (workers, want) in [(1, alone), (2, want), (64, want)] {
+    for (workers, want) in [(1, [0; 4]), (2, want), (64, want)] {
         let options = Options::of(workers, groups, block, frames_shown);
         if !has_jobs(rt, alloc, options, 0, capture, want) {
             return false;
@@ -61,12 +60,15 @@ pub fn stopped() -> [Frame; 8] {
     ]
 }
 
-/// Of nine blocks the last alone is not clear. A block that is clear has no job, unless credits are shown.
+/// The last two of ten blocks are not clear: by one the credit is used up, and with the other it stays so. A block that
+/// is clear has no job, unless credits are shown.
 pub fn jobs_of_blocks(rt: &(impl Sync + Threads + RandomSource), alloc: Global) -> Answer {
-    let capture = Capture::of_frames(alloc, &stopped()[..5])?;
+    let mut frames = stopped();
+    frames[5] = headers(10, Side::Client, 1);
+    let capture = Capture::of_frames(alloc, &frames[..6])?;
     Ok(
-        have_jobs(rt, alloc, (3, 1, false), &capture, [1, 1, 9, 1])
-            && have_jobs(rt, alloc, (3, 1, true), &capture, [1, 1, 9, 9]),
+        have_jobs(rt, alloc, (3, 1, false), &capture, [1, 1, 10, 2])
+            && have_jobs(rt, alloc, (3, 1, true), &capture, [1, 1, 10, 10]),
     )
 }
 
@@ -82,7 +84,8 @@ pub fn jobs_up_to_the_stop(rt: &(impl Sync + Threads + RandomSource), alloc: Glo
 
 /// A connection, and a second opening of its pair: four packets for each, so that both workers make flows.
 fn two_connections(alloc: Global) -> Result<Capture, AllocError> {
-    let mut capture = Capture::of_frames(alloc, &[headers(5, Side::Client, 1)])?;
+    let frames = [headers(5, Side::Client, 1), data(6, Side::Client, 1, 1)];
+    let mut capture = Capture::of_frames(alloc, &frames)?;
     capture.record(Side::Client, 9000, SYN, &[])?;
     Ok(capture)
 }

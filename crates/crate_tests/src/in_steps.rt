@@ -46,24 +46,12 @@ fn calls_of(reader: &Pieces, writer: &Slow) -> Option<[u32; 3]> {
     Some([reader.reads, writer.writes, writer.flushes])
 }
 
-/// Whether the account has as many of these bytes as the reader gave: the front that is kept, of at most `at_most`, and
-/// how many came after it.
-fn is_read(alloc: Global, reader: &CaptureReader<Pieces>, whole: &[u8], at_most: usize) -> bool {
+/// Whether the account has as many of these bytes as the reader gave: the front that is kept, of at most 24, and how
+/// many came after it.
+fn is_read(reader: &CaptureReader<Pieces>, whole: &[u8]) -> bool {
     let read = whole.len() - reader.reader().left.len().min(whole.len());
-    let kept = read.min(at_most);
-    reader.passed() == read - kept && has_kept(alloc, reader, &whole[..kept])
-}
-
-/// Whether exactly these few bytes, of one chunk, are kept.
-fn has_kept(alloc: Global, reader: &CaptureReader<Pieces>, bytes: &[u8]) -> bool {
-    let Ok(kept) = reader.capture(alloc) else {
-        return false;
-    };
-    if kept.len() == 0 {
-        bytes.is_empty()
-    } else {
-        kept.from(0) == bytes
-    }
+    let kept = read.min(24);
+    reader.passed() == read - kept && reader.kept() == &whole[..kept]
 }
 
 /// What a run answers.
@@ -94,15 +82,10 @@ fn goes_so(
     let whole = reader.left;
     let mut reader = CaptureReader::new(alloc, reader);
     let mut writer = ReportWriter::new(writer);
-    let at_most = if workers == 1 || wanted == BAD_MAGIC {
-        24
-    } else {
-        usize::MAX
-    };
     let report = &REPORT.as_bytes()[..written.min(REPORT.len())];
     answer_of(rt, alloc, workers, &mut reader, &mut writer) == Some(wanted)
         && calls_of(reader.reader(), writer.writer()) == Some(calls)
-        && is_read(alloc, &reader, whole, at_most)
+        && is_read(&reader, whole)
         && writer.writer().taken.as_slice() == report
 }
 
@@ -172,7 +155,7 @@ pub fn refused_capture(rt: &(impl Sync + Threads + RandomSource), alloc: Global)
     Ok(true)
 }
 
-/// Of 100,000 bytes in steps of 9 the first 24 take three reads and are kept; the rest is read and passed over.
+/// 100,000 bytes come in steps of 9: the first 24 take three reads and are kept; the rest is read and passed over.
 pub fn refused_header(rt: &(impl Sync + Threads + RandomSource), alloc: Global) -> Answer {
     let mut capture: Vec<u8> = Vec::new(alloc);
     capture.resize(100_000, 7)?;

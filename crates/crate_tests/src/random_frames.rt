@@ -66,7 +66,7 @@ fn random_frame(rng: &mut Pcg32, number: u32) -> Frame {
 }
 
 /// SETTINGS of both sides, the openings of streams 1, 2, 3 and 5, and then so many frames. A promise of stream 4 among
-/// these opens a stream out of order: then one worker goes through the rounds too, where credits are shown.
+/// these opens a stream out of order.
 pub fn script(alloc: Global, rng: &mut Pcg32, count: u32) -> Result<Vec<Frame>, AllocError>
     requires { count ≤ 1000 }
 {
@@ -85,14 +85,13 @@ pub fn script(alloc: Global, rng: &mut Pcg32, count: u32) -> Result<Vec<Frame>, 
     Ok(frames)
 }
 
-/// A division into so many groups, and blocks of so many frames. Connections of up to `undivided` frames stay whole.
-fn divided(groups: u32, block: u32, undivided: usize, frames_shown: bool) -> Division
+/// A division into so many groups, and blocks of so many frames.
+fn divided(groups: u32, block: u32, frames_shown: bool) -> Division
     requires { (0 < groups) × (0 < block) }
 {
     Division {
         groups,
         block,
-        undivided,
         hash: TableHash::drawn(&NoBytes),
         frames_shown,
     }
@@ -136,10 +135,10 @@ fn shows_the_pass(rt: &(impl Sync + Threads), alloc: Global, frames: &[Frame]) -
     for frames_shown in [true, false] {
         keep_shown(&mut want, frames_shown);
         let want = want.as_slice();
-        let undivided = divided(1, 4096, 4096, frames_shown);
-        let few = divided(2, 1, 1, frames_shown);
-        let many = divided(3, 7, 7, frames_shown);
-        if !finds(rt, alloc, 1, &undivided, frames, want)?
+        let whole = divided(1, 4096, frames_shown);
+        let few = divided(2, 1, frames_shown);
+        let many = divided(3, 7, frames_shown);
+        if !finds(rt, alloc, 1, &whole, frames, want)?
             || !finds(rt, alloc, 2, &few, frames, want)?
             || !finds(rt, alloc, 4, &many, frames, want)?
         {

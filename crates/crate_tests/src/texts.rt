@@ -3,7 +3,7 @@
 use crate::Answer;
 use audit_report::capture_lines;
 use h2audit::AuditFault;
-use packet_heads::{Endpoint, MadePackets, Packet, Packets, Refusal, Segment, Skip};
+use packet_heads::{Endpoint, Packet, Refusal, Segment, Skip};
 use pcap_records::{Nanos, PcapFault};
 use std::alloc::{AllocError, Global};
 use tcp_streams::Stray;
@@ -50,8 +50,8 @@ unopened 10.0.0.2:80 10.0.0.1:40000 segments 2
 ";
 
 /// One packet of each kind, in record order.
-fn packets(alloc: Global) -> Result<MadePackets, AllocError> {
-    let packets = [
+fn packets() -> [Packet; 13] {
+    [
         Packet::Refused(Refusal::ShortEthernet),
         Packet::Skipped(Skip::NotIpv4),
         Packet::Refused(Refusal::ShortIpv4),
@@ -65,8 +65,7 @@ fn packets(alloc: Global) -> Result<MadePackets, AllocError> {
         segment(11, true),
         Packet::Refused(Refusal::BadDataOffset),
         segment(13, false),
-    ];
-    MadePackets::of(alloc, &packets)
+    ]
 }
 
 /// A pair of endpoints that the capture did not see open.
@@ -80,16 +79,9 @@ fn strays(alloc: Global) -> Result<Vec<Stray>, AllocError> {
 }
 
 /// The lines of a capture of these packets, and of the strays.
-fn lines(alloc: Global, made: &MadePackets) -> Result<Vec<u8>, AllocError> {
-    let strays = strays(alloc)?;
-    let packets = Packets::of(alloc, made)?;
-    capture_lines(alloc, Some(14), &packets, strays)
-}
-
-/// The lines of these packets.
 fn capture_text(alloc: Global) -> Result<Vec<u8>, AllocError> {
-    let made = packets(alloc)?;
-    lines(alloc, &made)
+    let strays = strays(alloc)?;
+    capture_lines(alloc, Some(14), &packets(), strays)
 }
 
 /// Which packets are counted where, and which have a line of their own.

@@ -2,6 +2,8 @@
 use Rattle.std.proofs.Common.{◌≡◌, ℕ, ◌+◌, List, length, refl, ap, ap₂, ◌∙◌, arith, length-append}
 use Rattle.h2_frames.proofs.Words.{Flow, bytes_of, IsOrderly, Client, Server, SideFrame, numbered, preface}
 use Rattle.h2_frames.proofs.Words.{BeginsWithPreface, IsHttp2, merged, AreAhead}
+use Rattle.std.proofs.Common.{◌-◌, drop, length-drop, take}
+use Rattle.std.proofs.lemmas.List.{drop_at, take_all}
 use Rattle.h2_frames.proofs.Merging.{captured-in_order, merged-capture_order}
 
 pub http2-is : (client server : Flow) (rest : List ℕ) (sent answered all : List SideFrame)
@@ -31,3 +33,10 @@ http2-is client server rest sent answered all sent_tail answered_tail begins cli
           ∙ merged-capture_order _ _ sent_order answered_order;
       tails_are = refl;
     }
+
+-- what stands behind the preface
+pub behind_preface : (bytes rest : List ℕ) → BeginsWithPreface bytes rest
+    → take (length bytes - 24) (drop 24 bytes) ≡ rest
+behind_preface bytes rest begins =
+    take_all (length bytes - 24) (drop 24 bytes) (omega (arith, length-drop 24 bytes))
+    ∙ ap (drop 24) begins ∙ drop_at preface rest 24 refl

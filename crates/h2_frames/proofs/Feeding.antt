@@ -11,7 +11,7 @@ use Rattle.std.proofs.lemmas.Bool.{cases_lt}
 use Rattle.h2_frames.proofs.Words.{Err, Ok, Result}
 use Rattle.std.specs.Prelude.{OnOk}
 use Rattle.h2_frames.proofs.{Cutters.none_fits, Fronts.header_of-append, Promised.promised-fits}
-use Rattle.h2_frames.proofs.Walking.{numbers_push, orderly_push}
+use Rattle.h2_frames.proofs.Numbers.{numbers_push, orderly_push}
 use Rattle.h2_frames.specs.code.Brought.{frame_of, frames_from}
 use Rattle.h2_frames.specs.code.Cutter.{AreHandedOn, HasCut, HasGathered, HasGoneOn, IsBegun}
 use Rattle.h2_frames.specs.code.Handed.{Fits, HasHanded, HasRoomFor, IsNextFrame}

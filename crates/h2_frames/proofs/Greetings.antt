@@ -1,9 +1,11 @@
 -- A client's greeting: what is cut short, and what is other than the preface.
 use Rattle.std.proofs.Common.{◌≡◌, ◌≢◌, ℕ, zero, suc, ◌<◌, List, [], ◌∷◌, ◌++◌, length, get_or, take, drop, sym, ap}
 use Rattle.std.proofs.Common.{◌∙◌}
-use Rattle.std.proofs.Common.{append_assoc, arith, length-drop}
+use Rattle.std.proofs.Common.{append_assoc, arith, length-drop, refl}
 use Rattle.h2_frames.proofs.Words.{append-nil, take-append-drop, BeginsWithPreface, IsPrefaceCutShort, preface}
-use Rattle.h2_frames.specs.code.Greeting.{Differs}
+use Rattle.h2_frames.specs.code.Greeting.{Differs, IsGreeted}
+use Rattle.h2_frames.specs.declared.greeting.Greeting.{Greeting}
+use Rattle.h2_frames.specs.declared.greeting.Greeting.TheVariants.{CutShort, Other, Whole}
 
 -- so many bytes of the preface
 pub cut_short : (bytes : List ℕ) (i : ℕ) → i < 24 → bytes ≡ take i preface → IsPrefaceCutShort bytes
@@ -37,3 +39,10 @@ differs_more bytes more d = record {
   other = d.other;
   bytes_are = ap (λ (xs : List ℕ). xs ++ more) d.bytes_are ∙ append_assoc (take d.at preface) (d.byte ∷ d.later) more;
 }
+
+-- so does any greeting that is not cut short
+pub greeted_more : (bytes rest more : List ℕ) (greeting : Greeting) → ((n : ℕ) → greeting ≡ CutShort n → ⊥)
+    → IsGreeted bytes rest greeting → IsGreeted (bytes ++ more) (rest ++ more) greeting
+greeted_more bytes rest more (CutShort n) whole is = absurd (whole n refl)
+greeted_more bytes rest more Other whole is = differs_more bytes more is
+greeted_more bytes rest more Whole whole is = ap (λ l. l ++ more) is ∙ append_assoc preface rest more

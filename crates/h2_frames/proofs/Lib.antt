@@ -4,12 +4,12 @@ mod Promised
 mod SettingsRead
 mod SettingsRanges
 mod Arriving
-mod Reading
-mod Gathering
+mod Joining
+mod Sending
 mod Growth
 mod Merging
 mod BothSides
-mod Walking
+mod Numbers
 mod Cutters
 mod Feeding
 mod Arising

@@ -6,6 +6,10 @@ use Rattle.h2_frames.proofs.Words.{nat_lt, ◌==◌, nat_tests, Arrival, Rises, 
 use Rattle.h2_frames.proofs.Words.{side_order}
 use Rattle.h2_frames.proofs.Words.{merged, Spelled, Spells, byte_arrival, captured, captured_from, comes_after}
 use Rattle.h2_frames.proofs.Words.{numbered, capture_order}
+use Rattle.h2_frames.proofs.Numbers.{numbers_push, orderly_push}
+use Rattle.h2_frames.proofs.Words.{AllByRecursion, Frame, HaveNumbersFrom, IsInRange, IsOrderlyFrom, IsReadable}
+use Rattle.h2_frames.proofs.Words.{cond_both}
+use Rattle.std.proofs.Common.{append_assoc, ◌*◌, ◌^◌}
 
 -- comes_after, on the three numbers
 is_above : (a b c x y z : ℕ) → Bool
@@ -108,3 +112,61 @@ captured-in_order side arrivals high rises offset (s ∷ later) bytes tail spell
 pub merged-capture_order : (client server : List SideFrame) → IsAscending client → IsAscending server →
     numbered 1 (merged client server) ≡ capture_order client server
 merged-capture_order client server h k = ap (numbered 1) (sym (ordered-merge client server h k))
+
+-- frames of both sides that were merged and numbered, and those of each that are left
+pub record AreMergedTo (client server : List SideFrame) (frames : List Frame) (sent answered : List SideFrame)
+    : Type 0 where
+  pub all : numbered 1 (merged client server) ≡ frames ++ numbered (length frames + 1) (merged sent answered)
+  pub size : length frames + (length sent + length answered) ≡ length client + length server
+  pub numbers : HaveNumbersFrom 1 frames
+  pub orderly : IsOrderlyFrom 0 frames
+  pub readable : AllByRecursion IsReadable (merged sent answered)
+
+all_merged : (xs ys : List SideFrame) → AllByRecursion IsReadable xs → AllByRecursion IsReadable ys
+    → AllByRecursion IsReadable (merged xs ys)
+all_merged [] ys first second = second
+all_merged (x ∷ xs) [] first second = (first.0, all_merged xs [] first.1 tt)
+all_merged (x ∷ xs) (y ∷ ys) first second =
+    cond_both (comes_after x y) (y ∷ merged (x ∷ xs) ys) (x ∷ merged xs (y ∷ ys)) (λ all. AllByRecursion IsReadable all)
+    (λ e. (second.0, all_merged (x ∷ xs) ys first second.1))
+    (λ e. (first.0, all_merged xs (y ∷ ys) first.1 second))
+
+-- none yet
+pub none_merged : (client server : List SideFrame) → AllByRecursion IsReadable client
+    → AllByRecursion IsReadable server → AreMergedTo client server [] client server
+none_merged client server first second = record {
+  all = refl;
+  size = omega arith;
+  numbers = tt;
+  orderly = tt;
+  readable = all_merged client server first second;
+}
+
+-- one frame more
+pub one_merged : (client server : List SideFrame) (frames : List Frame) (sent answered : List SideFrame)
+    → 9 * (length client + length server) < 2 ^ 31 → AreMergedTo client server frames sent answered
+    → (x : SideFrame) (later others : List SideFrame) → merged sent answered ≡ x ∷ merged later others
+    → length later + length others + 1 ≡ length sent + length answered → (number : ℕ) → number ≡ length frames + 1
+    → AreMergedTo client server (frames ++ record x.frame { number = number } ∷ []) later others
+one_merged client server frames sent answered few is x later others first fewer number number_is =
+    let frame : Frame = record x.frame { number = number } in
+    let size : length (frames ++ frame ∷ []) ≡ length frames + 1 = length-append frames (frame ∷ []) in
+    let readable = rw first at is.readable in
+    let range : IsInRange frame = record {
+      number = omega (arith, few, is.size, fewer, number_is);
+      stream = readable.0.stream;
+      promised = readable.0.promised;
+      length = readable.0.length;
+      nanos = readable.0.nanos;
+    } in
+    record {
+      all = is.all ∙ ap (λ l. frames ++ numbered (length frames + 1) l) first
+          ∙ ap (λ n. frames ++ record x.frame { number = n } ∷ numbered (length frames + 1 + 1) (merged later others))
+          (sym number_is)
+          ∙ sym (append_assoc frames (frame ∷ []) (numbered (length frames + 1 + 1) (merged later others)))
+          ∙ ap (λ n. (frames ++ frame ∷ []) ++ numbered (n + 1) (merged later others)) (sym size);
+      size = omega (arith, size, is.size, fewer);
+      numbers = numbers_push 1 frames frame is.numbers (omega (arith, number_is));
+      orderly = orderly_push 0 1 frames frame is.orderly is.numbers (omega arith) range (omega (arith, number_is));
+      readable = readable.1;
+    }

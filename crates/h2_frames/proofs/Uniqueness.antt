@@ -1,13 +1,14 @@
 -- Bytes have one spelling, flows one cut.
 use Rattle.std.proofs.Common.{◌≡◌, ℕ, List, [], ◌∷◌, ◌++◌, length, take, drop, refl, ap, sym, ◌∙◌, arith, length-append}
 use Rattle.std.proofs.Common.{append_assoc, inl, inr}
+use Rattle.std.specs.Prelude.{IfOk, IsTrue}
 use Rattle.std.{specs.declared.alloc.AllocError.AllocError, proofs.lemmas.Bool.false≢true}
 use Rattle.std.proofs.lemmas.List.{append_cancel_left, take_at, drop_at}
 use Rattle.h2_frames.proofs.Fronts.{header_of-append}
 use Rattle.h2_frames.proofs.Words.{Result, Ok, Err, Cut, Flow, Frame, Sides, Http2, NotHttp2, NoPreface, NoHandshake}
 use Rattle.h2_frames.proofs.Words.{Header, Spelled, header_of, HoldsNoFrame, Makes, Spells, preface, IsPrefaceCutShort}
 use Rattle.h2_frames.proofs.Words.{BeginsWithPreface, IsCut, IsHttp2, SpellingIsUnique, IsSameFlow, CutIsUnique}
-use Rattle.h2_frames.proofs.Words.{IsSameCut, FrameWalk, HasOrderlyFrames, IsAllOf, IsFoundCut, IsFreshWalk}
+use Rattle.h2_frames.proofs.Words.{IsSameCut, HasOrderlyFrames, IsFoundCut, IsOrderlyCut, bytes_of}
 
 -- two fronts of one length are one front, and so are the rests
 same_parts : (a b x y : List ℕ) → a ++ x ≡ b ++ y → length a ≡ length b → (a ≡ b) × (x ≡ y)
@@ -139,13 +140,11 @@ found-cut client server cut is orderly = record {
   memory = tt;
 }
 
--- what a walk over all frames finds
-pub found-all : (client server : Flow) (walk : FrameWalk) (found : Result Cut AllocError) →
-    IsFreshWalk client server walk → IsAllOf walk found → IsFoundCut client server found
-found-all client server walk (Ok cut) fresh all =
-    let both = all client server fresh in
-    found-cut client server cut both.0 both.1
-found-all client server walk (Err e) fresh all =
-    record { is = tt; only = tt; orderly = tt; memory = (fresh.started, fresh.after_preface, fresh.begins) }
+-- what is found of both sides' frames
+pub found-all : (client server : Flow) (rest : List ℕ) (found : Result Cut AllocError) → IsTrue server.started →
+    BeginsWithPreface (bytes_of client) rest → IfOk found (IsOrderlyCut client server) → IsFoundCut client server found
+found-all client server rest (Ok cut) started begins is = found-cut client server cut is.0 is.1
+found-all client server rest (Err e) started begins is =
+    record { is = tt; only = tt; orderly = tt; memory = (started, rest, begins) }
 
 pub ruleset uniqueness = (spelling-unique, cut-unique)

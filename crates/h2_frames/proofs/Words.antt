@@ -7,19 +7,16 @@ pub use Rattle.h2_frames.specs.CaptureOrder.{byte_arrival, capture_order, captur
 pub use Rattle.h2_frames.specs.Preface.{BeginsWithPreface, IsPrefaceCutShort, preface}
 pub use Rattle.h2_frames.specs.Settings.{first_bad, last_value, setting_at, settings_in, settings_of}
 pub use Rattle.h2_frames.specs.Spelling.{HoldsNoFrame, Makes, Spells}
-pub use Rattle.h2_frames.specs.code.Unread.{AreAhead, AreLeft, AreMerged, IsPlaced, IsReadOn}
-pub use Rattle.h2_frames.specs.code.Walk.{HaveNumbersFrom, IsReadyWalk, IsWalkAfter, IsWalkOn, taken_of}
-pub use Rattle.h2_frames.specs.code.Walk.{IsFreshWalk, IsWholeWalk, weight_of}
-pub use Rattle.h2_frames.specs.code.{Cutting.IsAllOf, Cutting.IsFoundCut, Orderly.HasOrderlyFrames}
-pub use Rattle.h2_frames.specs.code.{Merge.merged, Pieces.IsMeasured}
-pub use Rattle.h2_frames.specs.code.{Pieces.IsOneTaken, Pieces.bytes_left, SameCut.IsSameCut}
-pub use Rattle.h2_frames.specs.code.{Steps.IsReadable, Steps.arrivals_from, Steps.with_setting, Unread.IsReady}
+pub use Rattle.h2_frames.specs.code.Sent.{AreAhead}
+pub use Rattle.h2_frames.specs.code.Handed.{HaveNumbersFrom}
+pub use Rattle.h2_frames.specs.code.{Cutting.IsFoundCut, Cutting.IsOrderlyCut, Orderly.HasOrderlyFrames}
+pub use Rattle.h2_frames.specs.code.{Merge.merged, SameCut.IsSameCut}
+pub use Rattle.h2_frames.specs.code.{Steps.IsReadable, Steps.arrivals_from, Steps.with_setting}
 pub use Rattle.h2_frames.specs.declared.cuts.Cut.TheVariants.{Http2, NoHandshake, NoPreface, NotHttp2}
 pub use Rattle.h2_frames.specs.declared.cuts.Cut.{Cut}
-pub use Rattle.h2_frames.specs.declared.unread.Next.TheVariants.{Over, Read, Unread as ToRead}
-pub use Rattle.h2_frames.specs.declared.{headers.Header.Header, pieces.Pieces.Pieces}
+pub use Rattle.h2_frames.specs.declared.{headers.Header.Header}
 pub use Rattle.h2_frames.specs.declared.{settings.Setting.Setting, side_frames.SideFrame.SideFrame}
-pub use Rattle.h2_frames.specs.declared.{spelling.Spelled.Spelled, unread.Unread.Unread, walk.FrameWalk.FrameWalk}
+pub use Rattle.h2_frames.specs.declared.{spelling.Spelled.Spelled}
 pub use Rattle.h2_frames.specs.laws.Unique.{CutIsUnique, IsSameFlow, SpellingIsUnique}
 pub use Rattle.h2_frames.specs.{Body.body_of, CaptureOrder.numbered, Cut.IsCut, Cut.IsHttp2, Header.header_of}
 pub use Rattle.std.proofs.lemmas.{Bool.cond_both, Bool.Decides.nat_tests, List.append-nil, List.take-append-drop}

@@ -1,9 +1,6 @@
-pub mod Pieces
-pub mod Beginning
 pub mod Steps
 pub mod Merge
-pub mod Unread
-pub mod Walk
+pub mod Sent
 pub mod Orderly
 pub mod SameCut
 pub mod Cutting

@@ -19,8 +19,8 @@ const IDLE_BYTES: usize = 32;
 
 /// What is begun of a side's next frame.
 ///
-/// After each feeding the frames of all bytes that were fed were handed on. Of the bytes it keeps the header of a frame
-/// that is not whole yet, and of its payload what its body is read from.
+/// After each feeding the frames of all bytes that were fed were handed on. The bytes that it keeps are the header
+/// of a frame that is not whole yet, and what of its payload its body is read from.
 #[derive(Drop)]
 pub(crate) struct SideCutter {
     /// The bytes that are kept.

@@ -13,9 +13,10 @@
 //!   without the code: one list of bytes has one spelling, two flows have one cut, frames that are told record by
 //!   record, as each completes them, are told in capture order, and bytes that are fed arrive with the record that
 //!   brings them.
-//! - [`cut`] is a loop over a walk (`FrameWalk`), each step of which takes the next frame. The contract of a step holds
-//!   for whichever flows the walk began with (`specs/code/Walk.antt`): the frames that were taken, followed by those
-//!   that are left, are the connection's. Where none is left, those that were taken are all.
+//! - [`cut`] copies the bytes of each flow, so that they lie together, and reads the frames of each side out of them,
+//!   each with the record that brings its last byte (`specs/code/Sent.antt`). It then takes the earlier frame of
+//!   what is left of both sides, until none is left. Its flows may name one record for both sides: frames then
+//!   alternate, which a stage that is told record by record could not know.
 //! - [`ConnectionCutter`] cuts frames out of bytes as they come. It is told as a `tcp_streams::GrowthVisitor` by which
 //!   bytes the flow of a side grows, and with which record, and hands each frame that they complete to a
 //!   [`FrameVisitor`], numbered in capture order: a record is of one side, so a frame that is there follows all that
@@ -33,14 +34,12 @@
 //! - A frame that is numbered within its side has a type of its own (`SideFrame`), and becomes a frame of the
 //!   connection where it gets its number there.
 //! - Frames are orderly, as calls on frames require: numbers rise, streams have 31 bits and lengths 24, times are below
-//!   2^63. So are those that a walk has taken, at each step.
+//!   2^63.
 //! - The one error is want of memory, and only for a connection that is HTTP/2. The two flows together are shorter than
 //!   2^31 bytes, so frame numbers stay below 2^28 - 1.
 //! - The definition of a spelling is a grammar by cases on the list of frames, and that of the order an insertion sort.
-//!   The code is different: a cursor in each flow reads one frame ahead, and the earlier of the two frames is taken.
-//!   A frame in one piece of its flow is read in place; otherwise the header, and of the payload what its body is read
-//!   from, are first copied into a buffer. The stage reads bytes in place too, and no list is put in order. No call
-//!   starts threads.
+//!   The code is different: [`cut`] merges two lists that are in order, and the stage puts none in order, and reads
+//!   bytes in place. No call starts threads.
 //! - [`worked_examples`] compute bodies, headers and order on small inputs, by proof: each type's payload at the
 //!   lengths where its answer changes, padding, settings at the ends of their ranges.
 //! - The prover refuses: a value out of range left out, an order by first bytes, exchanged tails, one tail told for
@@ -62,13 +61,10 @@ mod headers;
 pub mod laws;
 mod numbering;
 mod order;
-mod pieces;
 mod settings;
 mod side_frames;
 mod spelling;
-mod unread;
 mod visitor;
-mod walk;
 pub mod worked_examples;
 
 pub use connection::{ConnectionCutter, Ending};

@@ -1,42 +1,60 @@
-ghost use Rattle.std.specs.Prelude.{◌≡◌, ◌+◌, ℕ, List, ◌∷◌, IfSome, IfNone};
-ghost use Rattle.h2_frames.specs.code.Merge.{is_server_first};
+//! The frames of both sides, put in capture order.
+
+ghost use Rattle.std.specs.Prelude.{◌≡◌, ◌+◌, ◌*◌, ◌<◌, ◌^◌, ◌∷◌, [], IfNone, IfOk, IfSome, length};
+ghost use Rattle.std.specs.List.{AllByRecursion};
+ghost use Rattle.audit_terms.specs.code.runs.Orderly.{IsOrderly};
+ghost use Rattle.h2_frames.specs.CaptureOrder.{numbered};
+ghost use Rattle.h2_frames.specs.code.Merge.{merged};
 ghost use Rattle.h2_frames.specs.code.Steps.{IsReadable};
-ghost use Rattle.h2_frames.specs.code.Unread.{AreMerged, IsReadAhead, IsReady, weight};
-ghost use Rattle.h2_frames.specs.declared.side_frames.SideFrame.{SideFrame};
-ghost use Rattle.h2_frames.specs.declared.unread.Next.TheVariants.{Over};
 
 use crate::side_frames::SideFrame;
-use crate::unread::{Next, Unread};
+use audit_terms::Frame;
+use std::alloc::{AllocError, Global};
 
-/// Does the server's next frame come before the client's?
-fn is_server_first(client: &Next, server: &Next) -> bool
-    ensures { result ≡ is_server_first client.now server.now }
+/// The frames of both sides in capture order, numbered from 1.
+pub(crate) fn in_capture_order(
+    alloc: Global,
+    client: &[SideFrame],
+    server: &[SideFrame],
+) -> Result<Vec<Frame>, AllocError>
+    requires few { 9 * (length client.now + length server.now) < 2 ^ 31 }
+    requires client { AllByRecursion IsReadable client.now }
+    requires server { AllByRecursion IsReadable server.now }
+    ensures all { IfOk result (λ frames. frames.items ≡ numbered 1 (merged client.now server.now)) }
+    ensures orderly { IfOk result (λ frames. IsOrderly frames.items) }
 {
-    match (client, server) {
-        (Next::Read(x), Next::Read(y)) => x.comes_after(y),
-        (Next::Read(_), _) => false,
-        (_, _) => true,
+    let mut frames = Vec::with_capacity(alloc, client.len() + server.len())?;
+    let mut sent = client;
+    let mut answered = server;
+    while let Some((first, later_sent, later_answered)) = first_of(sent, answered) {
+        let number = frames.len() as u32 + 1;
+        frames.push(first.numbered(number))?;
+        sent = later_sent;
+        answered = later_answered;
     }
+    Ok(frames)
 }
 
-/// Takes the frame out that comes first of both sides.
-pub(crate) fn take_first(client: &mut Unread<'_>, server: &mut Unread<'_>) -> Option<SideFrame>
-    requires client { IsReadAhead client.old }
-    requires server { IsReadAhead server.old }
-    ensures client { IsReady client.new }
-    ensures server { IsReady server.new }
-    ensures readable { IfSome result IsReadable }
-    ensures first { IfSome result (λ frame. (frames : List SideFrame) → (tail other : List ℕ) →
-        AreMerged client.new server.new frames tail other →
-        AreMerged client.old server.old (frame ∷ frames) tail other) }
-    ensures weight { IfSome result (λ frame.
-        weight client.new + weight server.new + 9 ≡ weight client.old + weight server.old) }
-    ensures over { IfNone result ((client.old.next ≡ Over) × (server.old.next ≡ Over)) }
-    ensures same { IfNone result ((client.new ≡ client.old) × (server.new ≡ server.old)) }
+/// The frame that comes first of both sides, and what follows it on each.
+fn first_of<'a>(
+    client: &'a [SideFrame],
+    server: &'a [SideFrame],
+) -> Option<(SideFrame, &'a [SideFrame], &'a [SideFrame])>
+    ensures first { IfSome result (λ found. merged client.now server.now ≡ found.0 ∷ merged found.1.now found.2.now) }
+    ensures size { IfSome result (λ found.
+        length found.1.now + length found.2.now + 1 ≡ length client.now + length server.now) }
+    ensures none { IfNone result ((client.now ≡ []) × (server.now ≡ [])) }
 {
-    if is_server_first(&client.next, &server.next) {
-        server.take()
+    let Some((x, later_sent)) = client.split_first() else {
+        let (y, later_answered) = server.split_first()?;
+        return Some((*y, client, later_answered));
+    };
+    let Some((y, later_answered)) = server.split_first() else {
+        return Some((*x, later_sent, server));
+    };
+    if x.comes_after(y) {
+        Some((*y, client, later_answered))
     } else {
-        client.take()
+        Some((*x, later_sent, server))
     }
 }

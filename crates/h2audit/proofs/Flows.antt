@@ -1,7 +1,7 @@
 -- The jobs of the round over connections, and what their parts keep of flows.
 use Rattle.std.proofs.Common.{◌≡◌, ℕ, suc, ◌<◌, Bool, List, [], ◌∷◌, ◌++◌, length, slice_get}
-use Rattle.std.proofs.Common.{All, IfOk, Ok, Err, Result, Option, Some, None, Bor, map, refl, sym, subst, ap, ◌∙◌}
-use Rattle.std.proofs.Common.{arith, false}
+use Rattle.std.proofs.Common.{All, Option, Some, None, Bor, map, refl, sym, subst, ap, ◌∙◌}
+use Rattle.std.proofs.Common.{arith}
 use Rattle.std.proofs.lemmas.List.{get_or-map, length-map}
 use Rattle.std.proofs.lemmas.List.FromFn.{get_or-map-range_with_len, length-map-range_with_len}
 use Rattle.std.proofs.lemmas.Option.{get_or_from_slice_get, slice_get_within}
@@ -81,7 +81,7 @@ are-made credits (h ∷ held) (p ∷ parts) same each =
 pub held-orderly : (credits : Bool) (client server : Flow) (o : Outcome) → IsHeldBy credits client server o
     → HasOrderlyOutcome o
 held-orderly credits client server (outcome.Found found) held =
-    rw held.1.kept.frames held.1.of_flows.some_orderly
+    rw held.kept.frames held.of_flows.some_orderly
 held-orderly credits client server (outcome.Audited audited) held = held.2
 held-orderly credits client server _ held = tt
 
@@ -119,8 +119,7 @@ module _ (credits : Bool) (held : HeldFlows) (o : Outcome) (client server : Flow
       let at_once : IsMadeOf credits held (Some o) = subst (IsMadeOf credits held) same is in
       record {
         extents = holds.extents;
-        held = subst (λ (shown : Bool). IsHeldBy shown client server o) (sym at_once.0)
-            (at_once.1 client server holds.cut.is);
+        held = at_once client server holds.cut.is;
       }
 
   pub told-kept : KeepsCut o held.cut → HoldsFlows client server held
@@ -131,22 +130,19 @@ module _ (credits : Bool) (held : HeldFlows) (o : Outcome) (client server : Flow
   }
 
 -- so is what is kept of what was found in them
-pub held-found : (client server : Flow) (found : FoundConnection) (o : Outcome) → KeepsFound o found
-    → IsFoundOf client server found → IsHeldBy false client server o
-held-found client server found (outcome.Quiet quiet) keeps is = (
-  refl,
-  record {
-    frames = is.frames;
-    started = is.started;
-    http2 = subst (λ (t : Sides ℕ). h2.IsHttp2 client server is.frames t) (sym keeps.1) is.http2;
-    orderly = is.orderly;
-    count = keeps.0 ∙ is.count;
-    silent = sym is.findings ∙ keeps.2;
-  },
-)
-held-found client server found (outcome.Found made) keeps is =
-    (refl, record { found = found; of_flows = is; kept = keeps })
-held-found client server found _ keeps is = absurd keeps
+pub held-found : (credits : Bool) (client server : Flow) (found : FoundConnection) (o : Outcome) → KeepsFound o found
+    → IsFoundOf credits client server found → IsHeldBy credits client server o
+held-found credits client server found (outcome.Quiet quiet) keeps is = record {
+  frames = is.frames;
+  started = is.started;
+  http2 = subst (λ (t : Sides ℕ). h2.IsHttp2 client server is.frames t) (sym keeps.1) is.http2;
+  orderly = is.orderly;
+  count = keeps.0 ∙ is.count;
+  silent = sym is.findings ∙ keeps.2;
+}
+held-found credits client server found (outcome.Found made) keeps is =
+    record { found = found; of_flows = is; kept = keeps }
+held-found credits client server found _ keeps is = absurd keeps
 
 gap-from : (sources : ℕ → Option Source) (n : ℕ) (gap : Option ℕ) → IsGap sources n gap
     → (offset : ℕ) → gap ≡ Some offset → offset ≡ n

@@ -1,5 +1,5 @@
 -- What is kept of a capture answers for all of it.
-use Rattle.std.proofs.Common.{◌≡◌, ◌∙◌, ℕ, List, ◌++◌, length, take, Some, None, sym, ap, subst}
+use Rattle.std.proofs.Common.{◌≡◌, ◌∙◌, ℕ, List, ◌++◌, length, Some, None, sym, ap, subst}
 use Rattle.std.proofs.Common.{Result, Ok, Err, IfErr, IfOk}
 use Rattle.std.proofs.Common.{IfSome, Option, rules}
 use Rattle.pcap_records.specs.Refusal.{refusal}

@@ -9,7 +9,7 @@ use Rattle.pcap_records.specs.declared.faults.PcapFault.{PcapFault}
 use Rattle.pcap_records.proofs.Sizes.{front_decides_lem, allowed_is_short_lem}
 use Rattle.input_output.specs.Account.{IsReadToEnd, given, kept}
 use Rattle.input_output.specs.Account.{IsUnwritten, written}
-use Rattle.h2audit.specs.Account.{HasGiven, IsBrief, Tells}
+use Rattle.h2audit.specs.Account.{HasGiven, Tells}
 use Rattle.h2audit.specs.code.Reading.{AnswersFor, IsReadingFault}
 use Rattle.h2audit.specs.code.Writing.{IsAnswered, IsWritten}
 use Rattle.h2audit.specs.Report.{IsNoReport, IsReport}

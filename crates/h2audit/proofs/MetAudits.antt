@@ -1,6 +1,6 @@
 -- What is told of the connections of a capture that is audited as it is read.
 use Rattle.std.specs.List.{AllZip}
-use Rattle.std.proofs.Common.{◌≡◌, ◌<◌, ◌^◌, ◌∙◌, ◌++◌, ◌∷◌, ℕ, [], Bool, List, Vec, Global, ap, arith, false}
+use Rattle.std.proofs.Common.{◌≡◌, ◌<◌, ◌^◌, ◌∙◌, ◌++◌, ◌∷◌, ℕ, [], Bool, List, Vec, Global, ap, arith}
 use Rattle.std.proofs.Common.{find, length}
 use Rattle.std.proofs.Common.{map, option_map, refl, sym, ◌⊎◌, Err, IfErr, IfOk, IfSome, None, Ok, OnOk, Option, Result}
 use Rattle.std.proofs.Common.{Some, inl, inr, subst}
@@ -98,17 +98,18 @@ none-kept (outcome.Found made) http2 keeps = refl
 none-kept _ http2 keeps = absurd keeps
 
 -- so nothing is left to be audited
-pub told-whole : (client server : Flow) (reach : Sides Reach) (o : Outcome) (cut : FoundCut) → KeepsMet o cut
-    → IsFoundCut client server cut → extents_in reach ≡ extents_of client server
-    → IsToldWhole client server (record { reach = reach; outcome = o })
-told-whole client server reach o (found.Http2 http2) keeps is extents =
-    let held = held-found client server http2 o keeps is in
+pub told-whole : (credits : Bool) (client server : Flow) (reach : Sides Reach) (o : Outcome) (cut : FoundCut)
+    → KeepsMet o cut
+    → IsFoundCut credits client server cut → extents_in reach ≡ extents_of client server
+    → IsToldWhole credits client server (record { reach = reach; outcome = o })
+told-whole credits client server reach o (found.Http2 http2) keeps is extents =
+    let held = held-found credits client server http2 o keeps is in
     record { flows = record { extents = extents; held = held }; whole = none-kept o http2 keeps }
-told-whole client server reach o found.NotHttp2 keeps is extents =
+told-whole credits client server reach o found.NotHttp2 keeps is extents =
     rw keeps (record { flows = record { extents = extents; held = is }; whole = refl })
-told-whole client server reach o found.NoPreface keeps is extents =
+told-whole credits client server reach o found.NoPreface keeps is extents =
     rw keeps (record { flows = record { extents = extents; held = is }; whole = refl })
-told-whole client server reach o found.NoHandshake keeps is extents =
+told-whole credits client server reach o found.NoHandshake keeps is extents =
     rw keeps (record { flows = record { extents = extents; held = is }; whole = refl })
 
 -- what is made of each connection at its end, whatever it was handed
@@ -194,35 +195,19 @@ report-behind capture packets cut credits lines headings told text verdict conne
     }
 
 module _ {V : Type 0} (after : Segment → List Sent → ℕ → V → Type 0) where
-  -- how a walk ends over a capture whose bytes are there, or are not
-  pub met-end : (capture : List ℕ) (r : Result (MetCapture V × Option ℕ) PcapFault) → OnOk r (refusal capture ≡ None)
-      → IfOk r (λ found. HasMet (HasMetPackets after) capture found.0 found.1)
-      → IfSome (refusal capture) (λ e. r ≡ Err e)
-      → IfErr r (λ e. (e ≡ fault.OutOfMemory) ⊎ (refusal capture ≡ Some e)) → IsMetEnd after capture r
-  met-end capture (Ok found) taken met refused err = (taken, met)
-  met-end capture (Err fault.OutOfMemory) taken met refused err =
-      unrefused capture (Err fault.OutOfMemory) (refusal capture) refl refused refl
-  met-end capture (Err fault.ShortHeader) taken met refused (inl other) = absurd cc
-  met-end capture (Err fault.ShortHeader) taken met refused (inr is) = is
-  met-end capture (Err fault.BadMagic) taken met refused (inl other) = absurd cc
-  met-end capture (Err fault.BadMagic) taken met refused (inr is) = is
-  met-end capture (Err fault.BadVersion) taken met refused (inl other) = absurd cc
-  met-end capture (Err fault.BadVersion) taken met refused (inr is) = is
-  met-end capture (Err fault.LinkType) taken met refused (inl other) = absurd cc
-  met-end capture (Err fault.LinkType) taken met refused (inr is) = is
-  met-end capture (Err fault.TooLarge) taken met refused (inl other) = absurd cc
-  met-end capture (Err fault.TooLarge) taken met refused (inr is) = is
-
-  -- or of which all bytes were fed
+  -- how a walk ends that was fed a whole capture
   pub fed-end : (capture : List ℕ) (r : Result (MetCapture V × Option ℕ) PcapFault) → OnOk r (refusal capture ≡ None)
       → IfOk r (λ found. HasMet (HasMetPackets after) capture found.0 found.1)
       → IfSome (refusal capture) (λ e. r ≡ Err e)
       → IfErr r (λ e. refusal capture ≡ Some e) → IsMetEnd after capture r
-  fed-end capture r taken met refused err = met-end capture r taken met refused (either r err) where
-    either : (r : Result (MetCapture V × Option ℕ) PcapFault) → IfErr r (λ e. refusal capture ≡ Some e)
-        → IfErr r (λ e. (e ≡ fault.OutOfMemory) ⊎ (refusal capture ≡ Some e))
-    either (Ok found) err = err
-    either (Err e) err = inr err
+  fed-end capture (Ok found) taken met refused err = (taken, met)
+  fed-end capture (Err fault.OutOfMemory) taken met refused err =
+      unrefused capture (Err fault.OutOfMemory) (refusal capture) refl refused refl
+  fed-end capture (Err fault.ShortHeader) taken met refused err = err
+  fed-end capture (Err fault.BadMagic) taken met refused err = err
+  fed-end capture (Err fault.BadVersion) taken met refused err = err
+  fed-end capture (Err fault.LinkType) taken met refused err = err
+  fed-end capture (Err fault.TooLarge) taken met refused err = err
 
 -- what is answered of a report that is put in memory as a whole
 module _ (capture : List ℕ) (credits : Bool) (audited : Result (List ℕ × Verdict) AuditFault)

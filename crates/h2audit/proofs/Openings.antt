@@ -1,6 +1,6 @@
 -- What is told of the openings of a capture.
 use Rattle.std.specs.List.{AllZip}
-use Rattle.std.proofs.Common.{◌≡◌, ◌<◌, ◌^◌, ℕ, Bool, false, All, Global, List, Vec, [], ◌∷◌, length}
+use Rattle.std.proofs.Common.{◌≡◌, ◌<◌, ◌^◌, ℕ, Bool, All, Global, List, Vec, [], ◌∷◌, length}
 use Rattle.std.proofs.lemmas.List.Elements.{All-cons, All-nil}
 use Rattle.packet_heads.specs.declared.packets.{Packet.Packet, Segment.Segment}
 use Rattle.report_pages.specs.declared.told.Told.{Told}
@@ -41,17 +41,19 @@ module _ (capture : List ℕ) (packets : List Packet) where
       All-cons HasFlows h held (of_flows.flows, of_flows.holds.cut) (all-held place few os held each.1)
 
   -- what is told where no frame is left to be audited
-  pub whole-told : (os : List Segment) (told : List Told) → AllZip (IsWholeOfOpening capture packets) os told
-      → AllZip (IsToldOfOpening false capture packets) os told
-  whole-told [] [] each = tt
-  whole-told [] (one ∷ told) each = absurd each
-  whole-told (o ∷ os) [] each = absurd each
-  whole-told (o ∷ os) (one ∷ told) each = (each.0.told_of, whole-told os told each.1)
+  pub whole-told : (credits : Bool) (os : List Segment) (told : List Told)
+      → AllZip (IsWholeOfOpening credits capture packets) os told
+      → AllZip (IsToldOfOpening credits capture packets) os told
+  whole-told credits [] [] each = tt
+  whole-told credits [] (one ∷ told) each = absurd each
+  whole-told credits (o ∷ os) [] each = absurd each
+  whole-told credits (o ∷ os) (one ∷ told) each = (each.0.told_of, whole-told credits os told each.1)
 
-  pub all-whole : (os : List Segment) (told : List Told) → AllZip (IsWholeOfOpening capture packets) os told
+  pub all-whole : (credits : Bool) (os : List Segment) (told : List Told)
+      → AllZip (IsWholeOfOpening credits capture packets) os told
       → All (λ (one : Told). frames_of one.outcome ≡ []) told
-  all-whole [] [] each = All-nil (λ (one : Told). frames_of one.outcome ≡ [])
-  all-whole [] (one ∷ told) each = absurd each
-  all-whole (o ∷ os) [] each = absurd each
-  all-whole (o ∷ os) (one ∷ told) each =
-      All-cons (λ (one : Told). frames_of one.outcome ≡ []) one told each.0.whole (all-whole os told each.1)
+  all-whole credits [] [] each = All-nil (λ (one : Told). frames_of one.outcome ≡ [])
+  all-whole credits [] (one ∷ told) each = absurd each
+  all-whole credits (o ∷ os) [] each = absurd each
+  all-whole credits (o ∷ os) (one ∷ told) each =
+      All-cons (λ (one : Told). frames_of one.outcome ≡ []) one told each.0.whole (all-whole credits os told each.1)

@@ -126,23 +126,23 @@ module _ (credits : Bool) (capture : List ℕ) (packets : List Packet) (c : Conn
       → (one : Told) → one.reach ≡ reach → (made : Outcome) → one.outcome ≡ made → IsOutcomeWith o found made
       → Step credits capture packets c (record { reach = reach; outcome = o }) one found rest
   step-of (Quiet quiet) held found same one reached made here with_them =
-      let is = held.1 in
+      let is = held in
       let fit = length-orderly 0 is.frames (omega arith) is.orderly in
       let frames = list-of c.members is.frames (omega arith) in
       unkept (Quiet quiet) (cut.Http2 frames quiet.tails) (list-of c.members [] (omega arith)) (is.started, is.http2)
-      (sym (ap (λ b. shown b (pass is.frames)) held.0 ∙ is.silent)) found same refl one reached (here ∙ with_them)
+      (sym is.silent) found same refl one reached (here ∙ with_them)
       (is.count, refl, refl) tt
   step-of (Found told) held found same one reached made here with_them =
-      let is = held.1.of_flows in
-      let kept = held.1.kept in
-      let findings = held.1.found.findings in
+      let is = held.of_flows in
+      let kept = held.kept in
+      let findings = held.found.findings in
       let fit = length-orderly 0 is.frames (omega arith) is.orderly in
       let frames = list-of c.members is.frames (omega arith) in
-      let stalls_are = kept.stalls_are ∙ stalls-alike is.frames held.1.found.shown_at.items findings.items is.named in
+      let stalls_are = kept.stalls_are ∙ stalls-alike is.frames held.found.shown_at.items findings.items is.named in
       let named = subst (λ (l : List Frame). AllByRecursion (IsNamedAlike is.frames l) findings.items)
       (sym kept.frames) is.named in
-      unkept (Found told) (cut.Http2 frames held.1.found.tails) findings (is.started, is.http2)
-      (is.findings ∙ sym (ap (λ b. shown b (pass is.frames)) held.0)) found same refl one reached (here ∙ with_them)
+      unkept (Found told) (cut.Http2 frames held.found.tails) findings (is.started, is.http2)
+      is.findings found same refl one reached (here ∙ with_them)
       (kept.count ∙ is.count, kept.tails, kept.findings, stalls_are, named) (rw kept.frames is.some_orderly)
   step-of (Audited audited) held [] same one reached made here with_them = absurd cc
   step-of (Audited audited) held (findings ∷ found) same one reached (Audited told) here with_them =

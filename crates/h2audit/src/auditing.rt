@@ -1,4 +1,4 @@
-ghost use Rattle.std.specs.Prelude.{◌≡◌, ◌⊎◌, ℕ, false, IfOk, IfErr, IsOk, List, None, Ok, Err};
+ghost use Rattle.std.specs.Prelude.{◌≡◌, ◌⊎◌, ℕ, IfOk, IfErr, IsOk, List, None, Ok, Err};
 ghost use Rattle.packet_heads.specs.code.Walk.{HasMet};
 ghost use Rattle.pcap_records.specs.Refusal.{refusal};
 ghost use Rattle.quiet_pass.specs.code.FoundFlows.{HasMetSent};
@@ -17,10 +17,10 @@ use crate::met_captures::MetCapture;
 use crate::verdict::{Verdict, verdict_on};
 use audit_report::SectionHeading;
 use audit_rounds::Division;
-use input_output::{Capture, TableHash};
+use input_output::{TableHash, feed_rest};
 use packet_heads::PacketWalk;
-use pcap_records::PcapFault;
-use quiet_pass::ConnectionFindings;
+use pcap_records::{FILE_HEADER, PcapFault};
+use quiet_pass::{ConnectionFindings, Showing, WithCredits, WithoutCredits};
 use report_pages::{Report, Told};
 use std::alloc::{AllocError, Global};
 use std::random::RandomSource;
@@ -43,13 +43,29 @@ pub fn audit(
     ensures refused { IfErr result (λ e. IsNoReport capture.now e) }
 {
     let hash = TableHash::drawn(rt);
-    if options.audits_as_read() {
-        let ended = meet_all(alloc, hash, capture)?;
-        return in_bytes(rt, alloc, report_found(alloc, ended));
+    if options.workers() == 1 {
+        if options.frames_shown() {
+            return audit_found::<WithCredits>(rt, alloc, hash, capture);
+        }
+        return audit_found::<WithoutCredits>(rt, alloc, hash, capture);
     }
     let ended = meet_all(alloc, hash, capture)?;
     let team = team_of(rt, alloc, options, gate);
     in_bytes(rt, alloc, report_listed(&team, options, hash, ended))
+}
+
+/// The text of the report of a capture whose frames are met as they come, and its verdict.
+fn audit_found<S: Showing>(
+    rt: &(impl Threads + Sync),
+    alloc: Global,
+    hash: TableHash,
+    capture: &[u8],
+) -> Result<(Vec<u8>, Verdict), AuditFault>
+    ensures report { IfOk result (λ r. IsReport capture.now S.frames_shown r.0.items r.1) }
+    ensures refused { IfErr result (λ e. IsNoReport capture.now e) }
+{
+    let ended = meet_all::<ConnectionFindings<S>>(alloc, hash, capture)?;
+    in_bytes(rt, alloc, report_found(alloc, ended))
 }
 
 /// What the packets of a capture made of a visitor, and the number of its cut record.
@@ -61,25 +77,24 @@ fn meet_all<V: ConnectionVisitor>(
     ensures met { IfOk result (IsMetEnd V.after capture.now) }
     ensures refused { IfErr result (λ e. IsNoReport capture.now e) }
 {
-    // A refusal takes no memory, so it comes before the chunks.
     match PacketWalk::begin(alloc, capture, MetCapture::new(alloc, hash)) {
-        Ok(walk) => match Capture::of_slice(alloc, capture) {
-            Ok(chunks) => Ok(walk.finish(alloc, &chunks)),
+        Ok(mut walk) => match feed_rest(alloc, capture, FILE_HEADER, &mut walk) {
+            Ok(()) => Ok(walk.end()),
             Err(_) => Err(AuditFault::OutOfMemory),
         },
         Err(refusal) => Err(AuditFault::Pcap(refusal)),
     }
 }
 
-/// The report of a capture whose packets were met as they came, and its verdict, without credits.
-pub(crate) fn report_found(
+/// The report of a capture whose packets were met as they came, and its verdict.
+pub(crate) fn report_found<S: Showing>(
     alloc: Global,
-    ended: Result<(MetCapture<ConnectionFindings>, Option<u32>), PcapFault>,
+    ended: Result<(MetCapture<ConnectionFindings<S>>, Option<u32>), PcapFault>,
 ) -> Result<(Report, Verdict), AuditFault>
-    requires { (capture : List ℕ) × IsMetEnd HasMetSent capture ended }
-    ensures report { (capture : List ℕ) → IsMetEnd HasMetSent capture ended
-        → IfOk result (λ r. IsReport capture false r.0 r.1) }
-    ensures refused { (capture : List ℕ) → IsMetEnd HasMetSent capture ended
+    requires { (capture : List ℕ) × IsMetEnd (HasMetSent S.frames_shown) capture ended }
+    ensures report { (capture : List ℕ) → IsMetEnd (HasMetSent S.frames_shown) capture ended
+        → IfOk result (λ r. IsReport capture S.frames_shown r.0 r.1) }
+    ensures refused { (capture : List ℕ) → IsMetEnd (HasMetSent S.frames_shown) capture ended
         → IfErr result (λ e. IsNoReport capture e) }
 {
     match ended {
@@ -110,7 +125,6 @@ pub(crate) fn report_listed<R: Threads + Sync, G: Gate>(
     let division = Division {
         groups: options.groups(),
         block: options.block(),
-        undivided: undivided(options),
         hash,
         frames_shown,
     };
@@ -121,16 +135,6 @@ pub(crate) fn report_listed<R: Threads + Sync, G: Gate>(
         },
         Err(PcapFault::OutOfMemory) => Err(AuditFault::OutOfMemory),
         Err(refusal) => Err(AuditFault::Pcap(refusal)),
-    }
-}
-
-/// A connection of no more frames than so many is not divided: one worker divides none, and several none that is one
-/// block.
-fn undivided(options: &Options) -> usize {
-    if options.workers() == 1 {
-        usize::MAX
-    } else {
-        options.block() as usize
     }
 }
 

@@ -60,7 +60,8 @@ fn flows_each<R: Threads + Sync, G: Gate>(
     stops.resize(held.len(), None)?;
     let round = FlowRound {
         frames_shown: division.frames_shown,
-        undivided: division.undivided,
+        // A connection that is one block is not divided.
+        undivided: division.block as usize,
         held,
     };
     let team = team.with_workers(sharers(team.workers, held));

@@ -19,9 +19,9 @@ use stop_desk::{Round, Work};
 /// The connections of a capture: a job for each.
 #[derive(Drop)]
 pub(crate) struct FlowRound<'a> {
-    /// Are credits shown? Then nothing is told at once.
+    /// Are credits shown?
     pub(crate) frames_shown: bool,
-    /// A connection of no more frames than so many is told at once, if something is shown of it and credits are not.
+    /// A connection of no more frames than so many is told at once, if something is shown of it.
     pub(crate) undivided: usize,
     pub(crate) held: &'a [HeldFlows],
 }
@@ -80,8 +80,7 @@ impl Round for FlowRound<'_> {
     }
 }
 
-/// What is shown of a connection, if it is told at once: where credits are not shown, and nothing is shown or there are
-/// few frames.
+/// What is shown of a connection, if it is told at once: where nothing is shown, frames are few or an error is early.
 fn outcome_at_once(
     alloc: Global,
     frames_shown: bool,
@@ -91,13 +90,10 @@ fn outcome_at_once(
     requires { HasFlows held.now }
     ensures { IfOk result (IsMadeOf frames_shown held.now) }
 {
-    if frames_shown {
-        return Ok(None);
-    }
     let Cut::Http2 { frames, tails } = &held.cut else {
         return Ok(None);
     };
-    let Some(found) = found_in(alloc, undivided, frames.as_slice(), *tails)? else {
+    let Some(found) = found_in(alloc, frames_shown, undivided, frames.as_slice(), *tails)? else {
         return Ok(None);
     };
     Ok(Some(outcome_found(alloc, found)?))

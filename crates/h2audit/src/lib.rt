@@ -30,7 +30,7 @@
 //! - What is kept of a connection in the end is small, and has all that the text tells of its audit
 //!   (`report_pages::Told`): how far the flows reach, and the number of frames where nothing is shown of them; else
 //!   what was found, the stalls, and frames: where all was found as they were met, those that findings name, else all
-//!   of them. Of all connections it is kept until the report is written.
+//!   of them. It is kept until the report is written.
 //! - Refused by the prover: an empty report, a verdict by errors alone, one that does not ask what was found as frames
 //!   were met, standard input read beside FILE, FILE left out, an option's number given up, a word after the program's
 //!   name left out, the ends of a connection exchanged, a first segment that is not met.

@@ -1,9 +1,10 @@
 //! Connections whose segments are met as they come.
 
-ghost use Rattle.std.specs.Prelude.{◌≡◌, ℕ, IfOk, IfSome, List};
+ghost use Rattle.std.specs.Prelude.{◌≡◌, ◌++◌, ◌∷◌, [], ℕ, IfOk, IfSome, List};
 ghost use Rattle.packet_heads.specs.declared.packets.Segment.{Segment as Opening};
-ghost use Rattle.tcp_streams.specs.code.Side.{Sent};
-ghost use Rattle.h2audit.specs.code.Met.{HasMetSegments, IsFirst, first_sent, heading_by, last_first};
+ghost use Rattle.tcp_streams.specs.code.Side.{IsSent, Sent};
+ghost use Rattle.tcp_streams.specs.code.Taken.{IsNextSent};
+ghost use Rattle.h2audit.specs.code.Met.{AreMet, HasMetSegments, IsFirst, first_sent, heading_by, last_first};
 
 use audit_report::SectionHeading;
 use packet_heads::Segment;
@@ -42,19 +43,38 @@ impl<V: ConnectionVisitor> ConnectionVisitor for MetConnection<V> {
     }
 
     fn take(&mut self, alloc: Global, segment: &Segment, payload: &[u8]) -> Result<(), AllocError> {
-        let first = match &mut self.met {
-            Met::Begun(visitor) => return visitor.take(alloc, segment, payload),
-            Met::Waits(first) => *first,
-        };
-        if first.is_none() && payload.is_empty() {
-            self.met = Met::Waits(Some(*segment));
-            return Ok(());
+        match &mut self.met {
+            Met::Begun(visitor) => visitor.take(alloc, segment, payload),
+            Met::Waits(first) => {
+                self.met = met_after(alloc, &self.opening, *first, segment, payload)?;
+                Ok(())
+            }
         }
-        let mut visitor: V = begun(alloc, &self.opening, first)?;
-        visitor.take(alloc, segment, payload)?;
-        self.met = Met::Begun(Box::new(alloc, visitor)?);
-        Ok(())
     }
+}
+
+/// What came of the next segment of a connection of which no frame can have been met.
+// Measured, in line it cleared the visitor's place on the stack for each segment.
+#[inline(never)]
+fn met_after<V: ConnectionVisitor>(
+    alloc: Global,
+    opening: &Segment,
+    first: Option<Segment>,
+    segment: &Segment,
+    payload: &[u8],
+) -> Result<Met<V>, AllocError>
+    requires sent { IsSent segment.now payload.now }
+    requires first { IfSome first IsFirst }
+    requires next { IsNextSent (first_sent first) (last_first first) segment.now }
+    ensures { IfOk result (AreMet V.after opening.now (first_sent first ++ (segment.now, payload.now) ∷ [])
+        segment.now.rec) }
+{
+    if first.is_none() && payload.is_empty() {
+        return Ok(Met::Waits(Some(*segment)));
+    }
+    let mut visitor: V = begun(alloc, opening, first)?;
+    visitor.take(alloc, segment, payload)?;
+    Ok(Met::Begun(Box::new(alloc, visitor)?))
 }
 
 /// The visitor of the connection that a SYN opens, after this segment without payload, if there was one.

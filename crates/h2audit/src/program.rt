@@ -57,11 +57,11 @@ fn behind_name(alloc: Global, mut words: Args) -> Result<Vec<String>, AllocError
 pub struct Outside<O, S, I, F, W> {
     pub open_file: O,
     pub say: S,
-    /// Of standard input.
+    /// The account of standard input.
     pub input: CaptureReader<I>,
-    /// Of FILE, once it is opened.
+    /// The account of FILE, once it is opened.
     pub file: Option<CaptureReader<F>>,
-    /// Of standard output.
+    /// The account of standard output.
     pub output: ReportWriter<W>,
 }
 

@@ -7,14 +7,11 @@ ghost use Rattle.h2audit.specs.declared.reading.FileHeader.TheVariants as header
 
 use crate::fault::AuditFault;
 use crate::met_captures::MetCapture;
-use input_output::{
-    CaptureReader, ChunksAhead, ReadFault, TableHash, keep_up_to, pass_over, walk_and_let_go,
-};
+use input_output::{CaptureReader, ReadFault, TableHash, keep_up_to, pass_over, walk_and_let_go};
 use packet_heads::PacketWalk;
 use pcap_records::{FILE_HEADER, PcapFault};
 use std::alloc::Global;
 use std::io::Read;
-use std::thread::Threads;
 use tcp_streams::ConnectionVisitor;
 
 /// What the file header of a capture gives.
@@ -28,8 +25,7 @@ pub(crate) enum FileHeader<W> {
 
 /// Reads to the end, or until there are 2^31 bytes, and has what comes met by a walk: of the bytes nothing is kept but
 /// the file header. Returns the refusal of that, or the walk.
-pub(crate) fn read_and_let_go<T: Threads + Sync, R: Read, V: ConnectionVisitor>(
-    rt: &T,
+pub(crate) fn read_and_let_go<R: Read, V: ConnectionVisitor>(
     alloc: Global,
     hash: TableHash,
     reader: &mut CaptureReader<R>,
@@ -38,10 +34,7 @@ pub(crate) fn read_and_let_go<T: Threads + Sync, R: Read, V: ConnectionVisitor>(
     ensures read { IfOk result (HasMetCapture V.after (R.remaining reader.old.source.reader) reader.new) }
     ensures err { IfErr result (λ e. IsReadingFault e reader.new) }
 {
-    let mut ahead = ChunksAhead::new(rt, alloc, 1);
-    let read = meet(alloc, MetCapture::new(alloc, hash), &mut ahead, reader);
-    ahead.finish();
-    match read {
+    match meet(alloc, MetCapture::new(alloc, hash), reader) {
         Ok(read) => Ok(read),
         Err(ReadFault::Failed(_)) => Err(AuditFault::Read),
         Err(ReadFault::OutOfMemory) => Err(AuditFault::OutOfMemory),
@@ -49,10 +42,9 @@ pub(crate) fn read_and_let_go<T: Threads + Sync, R: Read, V: ConnectionVisitor>(
 }
 
 /// Reads a capture whose packets are met as they come, and returns what its file header gives.
-fn meet<T: Threads, R: Read, V: ConnectionVisitor>(
+fn meet<R: Read, V: ConnectionVisitor>(
     alloc: Global,
     met: MetCapture<V>,
-    ahead: &mut ChunksAhead<'_, T>,
     reader: &mut CaptureReader<R>,
 ) -> Result<FileHeader<PacketWalk<MetCapture<V>>>, ReadFault>
     requires unread { IsUnread reader.old }
@@ -60,8 +52,8 @@ fn meet<T: Threads, R: Read, V: ConnectionVisitor>(
     ensures read { IfOk result (HasMetCapture V.after (R.remaining reader.old.source.reader) reader.new) }
     ensures err { IfErr result (λ e. accounted.IsReadingFault e reader.new) }
 {
-    keep_up_to(ahead, reader, FILE_HEADER)?;
-    let begun = PacketWalk::begin(alloc, reader.in_one_slice(), met);
+    keep_up_to(reader, FILE_HEADER)?;
+    let begun = PacketWalk::begin(alloc, reader.kept(), met);
     if reader.has_ended() {
         return Ok(header_by(begun));
     }

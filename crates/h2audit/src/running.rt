@@ -1,4 +1,4 @@
-ghost use Rattle.std.specs.Prelude.{ℕ, ◌^◌, ◌≤◌, IfErr, IfOk, List, false, length};
+ghost use Rattle.std.specs.Prelude.{ℕ, ◌^◌, ◌≤◌, IfErr, IfOk, List, length};
 ghost use Rattle.std.specs.Io.KnownBytes.{Appends};
 ghost use Rattle.input_output.specs.Account.{IsReadToEnd, IsUnread, IsUnwritten, written};
 ghost use Rattle.quiet_pass.specs.code.FoundFlows.{HasMetSent};
@@ -17,7 +17,7 @@ use crate::reading::{FileHeader, read_and_let_go};
 use crate::verdict::Verdict;
 use input_output::{CaptureReader, ReportWriter, TableHash};
 use packet_heads::PacketWalk;
-use quiet_pass::ConnectionFindings;
+use quiet_pass::{ConnectionFindings, Showing, WithCredits, WithoutCredits};
 use report_pages::Report;
 use std::alloc::Global;
 use std::io::{Read, Write};
@@ -50,25 +50,47 @@ pub fn run<R: Read, W: Write>(
     ensures taken { Appends (W.contents writer.old.writer) (W.contents writer.new.writer) (written writer.new) }
 {
     let hash = TableHash::drawn(rt);
-    if options.audits_as_read() {
-        let header = read_and_let_go(rt, alloc, hash, reader)?;
-        return write_answer(rt, report_found_behind(alloc, header), writer);
+    if options.workers() == 1 {
+        if options.frames_shown() {
+            return run_found::<WithCredits, _, _>(rt, alloc, hash, reader, writer);
+        }
+        return run_found::<WithoutCredits, _, _>(rt, alloc, hash, reader, writer);
     }
-    let header = read_and_let_go(rt, alloc, hash, reader)?;
+    let header = read_and_let_go(alloc, hash, reader)?;
     let team = team_of(rt, alloc, options, gate);
     let answer = report_listed_behind(&team, options, hash, header);
     write_answer(rt, answer, writer)
 }
 
-/// The report of a capture that was met as it was read, or the refusal that was read, without credits.
-fn report_found_behind(
+/// The same, where frames are met as they come.
+fn run_found<S: Showing, R: Read, W: Write>(
+    rt: &(impl Threads + Sync),
     alloc: Global,
-    header: FileHeader<PacketWalk<MetCapture<ConnectionFindings>>>,
+    hash: TableHash,
+    reader: &mut CaptureReader<R>,
+    writer: &mut ReportWriter<W>,
+) -> Result<Verdict, AuditFault>
+    requires unread { IsUnread reader.old }
+    requires unwritten { IsUnwritten writer.old }
+    ensures tells { Tells reader.new writer.new S.frames_shown result }
+    ensures given { HasGiven (R.remaining reader.old.source.reader) reader.new }
+    ensures brief { IsReadToEnd reader.new → IsBrief reader.new }
+    ensures taken { Appends (W.contents writer.old.writer) (W.contents writer.new.writer) (written writer.new) }
+{
+    let header = read_and_let_go::<_, ConnectionFindings<S>>(alloc, hash, reader)?;
+    write_answer(rt, report_found_behind(alloc, header), writer)
+}
+
+/// The report of a capture that was met as it was read, or the refusal that was read.
+fn report_found_behind<S: Showing>(
+    alloc: Global,
+    header: FileHeader<PacketWalk<MetCapture<ConnectionFindings<S>>>>,
 ) -> Result<(Report, Verdict), AuditFault>
-    requires { (capture : List ℕ) × IsMetHeaderOf HasMetSent capture header × (length capture ≤ 2 ^ 31) }
-    ensures report { (capture : List ℕ) → IsMetHeaderOf HasMetSent capture header
-        → IfOk result (λ r. IsReport capture false r.0 r.1) }
-    ensures refused { (capture : List ℕ) → IsMetHeaderOf HasMetSent capture header
+    requires { (capture : List ℕ) × IsMetHeaderOf (HasMetSent S.frames_shown) capture header
+        × (length capture ≤ 2 ^ 31) }
+    ensures report { (capture : List ℕ) → IsMetHeaderOf (HasMetSent S.frames_shown) capture header
+        → IfOk result (λ r. IsReport capture S.frames_shown r.0 r.1) }
+    ensures refused { (capture : List ℕ) → IsMetHeaderOf (HasMetSent S.frames_shown) capture header
         → IfErr result (λ e. IsNoReport capture e) }
 {
     match header {

@@ -1,21 +1,19 @@
 -- What is kept of a capture, read by read.
-use Rattle.std.proofs.Common.{◌≡◌, ◌⊎◌, ◌∙◌, ℕ, zero, suc, ◌+◌, ◌^◌, ◌<◌, ◌≤◌, List, [], ◌++◌, length, take, drop}
+use Rattle.std.proofs.Common.{◌≡◌, ◌⊎◌, ◌∙◌, ℕ, zero, suc, ◌+◌, ◌^◌, ◌<◌, ◌≤◌, List, [], ◌++◌, length, take}
 use Rattle.std.proofs.Common.{length-append, take_at, Option, Some, None, IfSome, inl, inr, sym, ap, subst}
 use Rattle.std.proofs.Common.{Result, Ok, Err, IfErr, IfOk, IsErr, IsOk, OnErr, OnOk, arith, refl, rules, ◌∷◌}
 use Rattle.std.specs.Io.{StartsWith, appended_bytes}
 use Rattle.std.specs.Io.KnownBytes.{Consumes, IsAtEnd}
-use Rattle.std.proofs.Transfers.{drop-appended, starts_with_length, starts_with_trans}
+use Rattle.std.proofs.Transfers.{starts_with_length, starts_with_trans}
 use Rattle.std.specs.Result.{result_and}
 use Rattle.std.proofs.lemmas.Result.{on_ok_weaker}
-use Rattle.std.proofs.Math.Seq.{take-add}
-use Rattle.std.proofs.lemmas.List.{append-nil, length-drop, length-take, take-take, take_all}
-use Rattle.input_output.specs.code.Front.{StandsInFront}
+use Rattle.std.proofs.lemmas.List.{append-nil, length-drop, take_all}
 use Rattle.input_output.specs.Account.{IsReadToEnd, given, kept, reads}
 use Rattle.input_output.specs.code.Reading.{HasConsumed, HasGrown, HasPassedOver, HasReadOn, HaveAnswered}
 use Rattle.input_output.specs.code.Reading.{IsOpenBelow}
 use Rattle.input_output.specs.code.Reading.{IsReadingFault}
 use Rattle.input_output.specs.code.Reading.{IsSound, StandsForAll}
-use Rattle.input_output.specs.Bytes.{InChunks}
+use Rattle.input_output.specs.Bytes.{WithRoom}
 use Rattle.input_output.specs.Calls.{EndIn, failed, moved}
 use Rattle.input_output.specs.code.Reads.{AreCallsIn, Gives, HasCalled, HasRead, IsGrown, IsStateAfter}
 use Rattle.input_output.specs.declared.capture_reader.CaptureReader.{CaptureReader}
@@ -26,12 +24,6 @@ use Rattle.input_output.specs.declared.fault.ReadFault.TheVariants as fault
 use Rattle.input_output.specs.declared.traced_reader.TracedReader.{TracedReader}
 use Rattle.input_output.specs.declared.traced_reader.FailedRead.{FailedRead}
 use Rattle.input_output.proofs.CallLemmas.{calls_after, end_in, gave as gave_by, gives-more, gives-trans}
-
--- what holds where both answers are good
-pub both_well : (P : Type 0) (one other both : Result (Unit {0}) ReadFault) → both ≡ result_and one other
-    → OnOk one (OnOk other P) → OnOk both P
-both_well P (Ok _) other both is well = rw is well
-both_well P (Err fault) other both is well = rw is tt
 
 -- what holds where an answer is good, of one that is
 pub where_ok : {T E P : Type 0} (answer : Result T E) → IsOk answer → OnOk answer P → P
@@ -113,7 +105,7 @@ module _ {R : Type 0} where
 
   -- what one read answered, with what it left; `before` is the reader once there was room for a byte
   pub answered_once : (left : R → Option (List ℕ)) (limit : ℕ) (old before : CaptureReader R) (source : TracedReader R)
-      (bytes : InChunks) (state : ReadState) (read : Result ℕ FailedRead) (entered : Result ℕ ReadFault)
+      (bytes : WithRoom) (state : ReadState) (read : Result ℕ FailedRead) (entered : Result ℕ ReadFault)
       (answer : Result (Unit {0}) ReadFault) → IsOpenBelow limit old → before.source ≡ old.source
       → kept before ≡ kept old → before.passed ≡ old.passed → before.bytes.room ≤ limit → IsGrown before.bytes bytes
       → IfOk read (HasRead left before.source source (appended_bytes (kept before) bytes.kept))
@@ -177,29 +169,6 @@ module _ {R : Type 0} where
         err = all.err;
       }
 
-  -- what was read while these bytes were taken out, once they stand in front again
-  pub read_behind : (left : R → Option (List ℕ)) (before : TracedReader R) (front : List ℕ) (now new : CaptureReader R)
-      → HasReadOn left before [] now → new ≡ record now { bytes = new.bytes } → kept new ≡ front ++ kept now
-      → new.bytes.room ≡ length front + now.bytes.room → new.bytes.room ≤ 2 ^ 31 → now.passed ≡ 0
-      → HasReadOn left before front new
-  read_behind left before front now new read same whole room most unpassed =
-      let source : new.source ≡ now.source = ap (λ (r : CaptureReader R). r.source) same in
-      let state : new.state ≡ now.state = ap (λ (r : CaptureReader R). r.state) same in
-      let size : length (kept new) ≡ length front + length (kept now) =
-      ap length whole ∙ length-append front (kept now) in record {
-        bytes = rw (drop-appended front (kept new) (kept now) whole, source) read.bytes;
-        end = λ ended. rw source (read.end (sym state ∙ ended));
-        more = λ unended. omega (arith, size, read.more (sym state ∙ unended));
-        sound = record {
-          within = omega (arith, size, room, read.sound.within);
-          limit =
-              let passed = ap (λ (r : CaptureReader R). r.passed) same in
-              omega (arith, size, room, most, read.sound.within, unpassed);
-          well = rw state read.sound.well;
-          calls = rw (state, source) read.sound.calls;
-        };
-      }
-
   -- what was passed over, and then one read more
   pub passed_more : (left : R → Option (List ℕ)) (first old new : CaptureReader R) (given : List ℕ) (n : ℕ)
       → HasPassedOver left first old → new.passed ≡ old.passed + n → HasRead left old.source new.source given n
@@ -228,8 +197,8 @@ module _ {R : Type 0} where
       → P (given old ++ more) next → IsLettingGo P left first new next
   let_go_more P left first old new walk next more n on some same limit grown read after calls is =
       let gave : given new ≡ given old ++ more = gave_by old.source new.source more read.called in
-      let size : length (kept new) ≡ length (kept old) = ap (λ (b : InChunks). length b.kept) same in
-      let room : new.bytes.room ≡ old.bytes.room = ap (λ (b : InChunks). b.room) same in record {
+      let size : length (kept new) ≡ length (kept old) = ap (λ (b : WithRoom). length b.kept) same in
+      let room : new.bytes.room ≡ old.bytes.room = ap (λ (b : WithRoom). b.room) same in record {
         sound = record {
           within = omega (arith, size, room, on.sound.within);
           limit = limit;
@@ -267,31 +236,3 @@ module _ {R : Type 0} where
     | inl unended ↦ inr (unended, rw unended at sound.calls, size ∙ whole unended)
     | inr ended ↦ inl (ended, rw ended at sound.calls)
   ]
-
--- a walk that stands for all of these bytes stands for a front of them
-pub stands_whole : {W : Type 0} (stands : List ℕ → W → Type 0) (bytes : List ℕ) (walk : W) → stands bytes walk
-    → StandsInFront stands bytes walk
-stands_whole stands bytes walk is = (
-  length bytes,
-  omega arith,
-  subst (λ front. stands front walk) (sym (take_all (length bytes) bytes (omega arith))) is,
-)
-
--- one that stands for a front of what was kept stands for a front of what is kept, where that has it in front
-pub walk_stays : {W : Type 0} (stands : List ℕ → W → Type 0) (first new : List ℕ) (walk : W)
-    → StartsWith new first → StandsInFront stands first walk → StandsInFront stands new walk
-walk_stays stands first new walk front (n, within, is) = (
-  n,
-  omega (arith, within, starts_with_length new first front),
-  subst (λ bytes. stands bytes walk) (ap (take n) (sym front) ∙ take-take n (length first) new within) is,
-)
-
--- what lies together behind a front goes on from it
-pub front_more : (fed most : ℕ) (all more : List ℕ) → more ≡ take most (drop fed all)
-    → take fed all ++ more ≡ take (fed + length more) all
-front_more fed most all more is =
-    let size : length more ≤ most = omega (arith, ap length is, length-take most (drop fed all)) in
-    let same : take (length more) (drop fed all) ≡ more =
-    sym (take-take (length more) most (drop fed all) size) ∙ ap (take (length more)) (sym is)
-    ∙ take_all (length more) more (omega arith) in
-    sym (take-add fed (length more) all ∙ ap (λ l. take fed all ++ l) same)

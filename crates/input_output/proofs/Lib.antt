@@ -1,4 +1,3 @@
-mod ChunkLemmas
 mod Bytes
 mod Walks
 pub mod CallLemmas

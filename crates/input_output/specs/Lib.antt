@@ -1,4 +1,3 @@
-pub mod Chunks
 pub mod Bytes
 pub mod Calls
 pub mod Account

@@ -1,5 +1,3 @@
-pub mod Sizes
-pub mod Front
 pub mod Stored
 pub mod Answers
 pub mod Reads

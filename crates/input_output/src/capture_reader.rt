@@ -2,25 +2,17 @@ ghost use Rattle.std.specs.Prelude.{◌≡◌, ◌+◌, ◌^◌, ◌<◌, ◌≤
 ghost use Rattle.std.specs.Prelude.{Ok};
 ghost use Rattle.std.specs.Bool.{Decides};
 ghost use Rattle.input_output.specs.Account.{IsUnread, kept, reads};
-ghost use Rattle.input_output.specs.code.Front.{StandsInFront};
-ghost use Rattle.input_output.specs.code.Reading.{HasTakenOut, HaveAnswered, IsOpenBehind, IsOpenBelow};
-ghost use Rattle.input_output.specs.code.Reading.{IsReadingFault};
+ghost use Rattle.input_output.specs.code.Reading.{HaveAnswered, IsOpenBelow, IsReadingFault};
 ghost use Rattle.input_output.specs.code.Reads.{AreCallsIn, HasRead, IsStateAfter};
 
-use crate::chunks_ahead::ChunksAhead;
 use crate::fault::ReadFault;
-use crate::front::{Capture, FrontWalk};
-use crate::kept_bytes::{FullChunks, KeptBytes};
+use crate::kept_bytes::KeptBytes;
 use crate::traced_reader::{FailedRead, TracedReader};
 use std::alloc::{AllocError, Global};
 use std::io::Read;
-use std::thread::{Threads, join_mut};
 
 /// The number of bytes at which reading stops: a capture that has as many is refused.
 pub const LIMIT: usize = 2_147_483_648;
-
-/// The most bytes that are read beside one walk. Where no thread can be spawned, the walk comes after them.
-const BESIDE_BYTES: usize = 67_108_864;
 
 /// How the reads of a capture went so far.
 ///
@@ -34,7 +26,7 @@ pub enum ReadState {
     Ended,
     /// The last one failed.
     Failed,
-    /// Memory was wanting, for bytes, for the list of their chunks, or for a walk over them.
+    /// Memory was wanting, for bytes or for a walk over them.
     LackedMemory,
 }
 
@@ -66,20 +58,11 @@ impl<R> CaptureReader<R> {
         }
     }
 
-    /// The bytes that are kept of those that the reads gave: all, or the file header that refuses them. An error is
-    /// want of memory for the list of their chunks.
-    pub fn capture(&self, alloc: Global) -> Result<Capture<'_>, AllocError>
-        ensures { IfOk result (λ capture. capture ≡ kept self.now) }
-    {
-        self.bytes.capture(alloc)
-    }
-
-    /// The bytes of [`CaptureReader::capture`] in one slice, while there is room for less than a chunk.
-    pub fn in_one_slice(&self) -> &[u8]
-        requires { self.now.bytes.room < 1048576 }
+    /// The bytes that are kept of those that the reads gave.
+    pub fn kept(&self) -> &[u8]
         ensures { result.now ≡ kept self.now }
     {
-        self.bytes.in_one_slice()
+        self.bytes.kept()
     }
 
     /// The number of bytes that the reads gave after these.
@@ -118,7 +101,7 @@ impl<R> CaptureReader<R> {
         LIMIT <= self.bytes.len() + self.passed
     }
 
-    /// Enters that there was no memory, for bytes, for the list of their chunks, or for a walk over them.
+    /// Enters that there was no memory, for bytes or for a walk over them.
     pub fn lack_memory(&mut self)
         ensures { self.new ≡ record self.old { state = ReadState.LackedMemory } }
     {
@@ -165,123 +148,14 @@ impl<R> CaptureReader<R> {
 impl<R: Read> CaptureReader<R> {
     /// Makes room, reads once, and keeps what that gives, up to `limit` bytes in all. No read comes after one that
     /// failed or found the end.
-    pub(crate) fn read_once<T: Threads>(
-        &mut self,
-        limit: usize,
-        ahead: &mut ChunksAhead<'_, T>,
-    ) -> Result<(), ReadFault>
+    pub(crate) fn read_once(&mut self, limit: usize) -> Result<(), ReadFault>
         requires { IsOpenBelow limit self.old }
         ensures { HaveAnswered R.remaining limit self.old.source (kept self.old) self.new result }
     {
-        let room = self.bytes.make_room(limit, ahead);
+        let room = self.bytes.make_room(limit);
         self.enter_memory(room)?;
         let read = self.bytes.read_once(&mut self.source);
         self.enter_read(read).and(Ok(()))
-    }
-
-    /// Reads once or more, up to [`LIMIT`], while a walk advances over what is kept.
-    ///
-    /// With one worker the calling thread reads once, and walks where the room is filled. With several, where a chunk
-    /// begins, another thread walks over those before it, and the caller reads on until that walk is done.
-    pub(crate) fn read_and_walk<T: Threads, W: FrontWalk + Send>(
-        &mut self,
-        ahead: &mut ChunksAhead<'_, T>,
-        walk: &mut W,
-    ) -> Result<(), ReadFault>
-        requires reader { IsOpenBelow (2 ^ 31) self.old }
-        requires walk { StandsInFront W.stands (kept self.old) walk.old }
-        ensures read { HaveAnswered R.remaining (2 ^ 31) self.old.source (kept self.old) self.new result }
-        ensures walk { OnOk result (StandsInFront W.stands (kept self.new) walk.new) }
-    {
-        if let Some(full) = self.take_full(ahead)? {
-            return self.read_behind(full, ahead, walk);
-        }
-        self.read_once(LIMIT, ahead)?;
-        let walked = self.bytes.walk_where_filled(ahead, walk);
-        self.enter_memory(walked)
-    }
-
-    /// Takes out what is kept, where a chunk begins and another thread can walk over those before it.
-    fn take_full<T: Threads>(
-        &mut self,
-        ahead: &mut ChunksAhead<'_, T>,
-    ) -> Result<Option<FullChunks>, ReadFault>
-        requires { IsOpenBelow (2 ^ 31) self.old }
-        ensures taken { IfOk result (HasTakenOut self.old self.new) }
-        ensures err { IfErr result (λ e.
-            HaveAnswered R.remaining (2 ^ 31) self.old.source (kept self.old) self.new (Err e)) }
-    {
-        if ahead.is_alone() {
-            return Ok(None);
-        }
-        let room = self.bytes.make_room(LIMIT, ahead);
-        self.enter_memory(room)?;
-        Ok(self.bytes.take_full(ahead.alloc))
-    }
-
-    /// Reads on beside a walk over full chunks that were taken out, and puts these back in front.
-    fn read_behind<T: Threads, W: FrontWalk + Send>(
-        &mut self,
-        full: FullChunks,
-        ahead: &mut ChunksAhead<'_, T>,
-        walk: &mut W,
-    ) -> Result<(), ReadFault>
-        requires reader { IsOpenBehind full self.old }
-        requires walk { StandsInFront W.stands full walk.old }
-        ensures read { HaveAnswered R.remaining (2 ^ 31) self.old.source full self.new result }
-        ensures walk { OnOk result (StandsInFront W.stands (kept self.new) walk.new) }
-    {
-        let limit = BESIDE_BYTES.min(LIMIT - full.len());
-        let read = self.read_beside(limit, ahead, &full, walk);
-        let whole = self.bytes.put_back(full);
-        self.enter_memory(whole).and(read)
-    }
-
-    /// Reads on, up to `limit`, until another thread's walk over full chunks is done. So neither sleeps until the other
-    /// one is done. A reader need not be `Send`, so the walk goes to the other thread; where none can be spawned, it
-    /// comes after the reads.
-    ///
-    /// Measured, a virtual processor that sleeps takes 0.3 ms to wake. With a join after each chunk the reader slept
-    /// wherever the walk took longer than the read.
-    fn read_beside<T: Threads, W: FrontWalk + Send>(
-        &mut self,
-        limit: usize,
-        ahead: &mut ChunksAhead<'_, T>,
-        full: &FullChunks,
-        walk: &mut W,
-    ) -> Result<(), ReadFault>
-        requires reader { IsOpenBelow limit self.old }
-        requires walk { StandsInFront W.stands full.now walk.old }
-        ensures read { HaveAnswered R.remaining limit self.old.source (kept self.old) self.new result }
-        ensures walk { OnOk result (StandsInFront W.stands full.now walk.new) }
-    {
-        let rt = ahead.rt;
-        let alloc = ahead.alloc;
-        let (walked, read) = join_mut(
-            rt,
-            &mut || full.walk(alloc, walk),
-            &mut || self.read_until(limit, ahead, full),
-        );
-        read?;
-        self.enter_memory(walked)
-    }
-
-    /// Reads once, and then on until the walk over these chunks is done, the end is found, or `limit` bytes are kept.
-    fn read_until<T: Threads>(
-        &mut self,
-        limit: usize,
-        ahead: &mut ChunksAhead<'_, T>,
-        full: &FullChunks,
-    ) -> Result<(), ReadFault>
-        requires { IsOpenBelow limit self.old }
-        ensures { HaveAnswered R.remaining limit self.old.source (kept self.old) self.new result }
-    {
-        loop {
-            let read = self.read_once(limit, ahead);
-            if full.is_walked() || !self.is_open_below(limit) {
-                return read;
-            }
-        }
     }
 
     /// Reads once into the buffer, and keeps nothing of it. No read comes after one that failed or found the end.

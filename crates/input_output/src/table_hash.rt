@@ -14,7 +14,7 @@ pub struct TableHash {
 
 #[derive(Clone, Copy)]
 enum Key {
-    /// Of random bytes.
+    /// Random bytes.
     Drawn(RandomState),
     /// Zero, where the system gives no random bytes.
     Zero,

@@ -1,6 +1,5 @@
 pub mod Ipv4
 pub mod Lines
-pub mod Marks
 pub mod Link
 pub mod Standing
 pub mod Tcp

@@ -1,9 +1,7 @@
-use crate::made::MadePackets;
-use crate::marks::{Mark, packet_of, segment_of};
-use input_output::Chunks;
+ghost use Rattle.std.specs.Prelude.{◌≡◌, IfNone, IfSome, Some, slice_get};
+ghost use Rattle.packet_heads.specs.code.Standing.{IsPassedOver};
+
 use pcap_records::Nanos;
-use std::alloc::{AllocError, Global};
-use std::marker::Model;
 
 /// An IPv4 address and a TCP port.
 #[derive(Clone, Copy, Debug, PartialEq, Eq, PartialOrd, Ord)]
@@ -99,80 +97,14 @@ pub enum Packet {
 
 const _: () = prove!(size_of::<Segment>() == 44);
 
-/// How many marks, or segments, a chunk of a capture's packets has.
-pub const PACKET_CHUNK: usize = 8_192;
-
-/// What the records of a capture hold, in order: a mark for each, and the segments that marks name, both in chunks.
-#[derive(Drop)]
-pub struct Packets<'a> {
-    marks: Chunks<'a, Mark, PACKET_CHUNK>,
-    segments: Chunks<'a, Segment, PACKET_CHUNK>,
-}
-
-impl<'a> Model for Packets<'a> {
-    ghost use Rattle.std.specs.Prelude.{List};
-    ghost use Rattle.packet_heads.specs.declared.packets.Packet.{Packet};
-    ghost use Rattle.packet_heads.specs.code.Marks.{packets_of};
-
-    ghost Value = { List Packet };
-
-    ghost view = { λ p. packets_of p.marks p.segments };
-}
-
-impl<'a> Packets<'a> {
-    ghost use Rattle.std.specs.Prelude.{◌≡◌, ◌<◌, ◌≤◌, IfOk, IfSome, IfNone, Some, get_or, length, slice_get};
-    ghost use Rattle.packet_heads.specs.code.Marks.{packets_held};
-    ghost use Rattle.packet_heads.specs.code.Standing.{IsPassedOver};
-
-    /// The packets that were made, to be read. Fails where memory runs out.
-    pub fn of(alloc: Global, made: &'a MadePackets) -> Result<Packets<'a>, AllocError>
-        ensures { IfOk result (λ all. all ≡ packets_held made.now) }
-    {
-        Ok(Packets {
-            marks: made.marks.lent(alloc)?,
-            segments: made.segments.lent(alloc)?,
-        })
-    }
-
-    /// The number of packets.
-    pub fn len(&self) -> usize
-        ensures { result ≡ length self.now }
-    {
-        self.marks.len()
-    }
-
-    /// The segment of an index, where it lies, if the packet there is one.
-    #[inline]
-    #[tactic(auto, using(crate::proofs::Marking::marks))]
-    pub fn segment(&self, index: usize) -> Option<&'a Segment>
-        ensures some { IfSome result (λ s. slice_get self.now index ≡ Some (Packet.Segment s.now)) }
-        ensures none { IfNone result (IfSome (slice_get self.now index) IsPassedOver) }
-    {
-        let mark = self.marks.get(index)?;
-        segment_of(&self.segments, *mark)
-    }
-
-    /// The packet of an index, if there is one.
-    #[inline(always)]
-    #[tactic(auto, using(std::proofs::lemmas::Option::gets))]
-    pub fn get(&self, index: usize) -> Option<Packet>
-        ensures some { IfSome result (λ packet. slice_get self.now index ≡ Some packet) }
-        ensures none { IfNone result (length self.now ≤ index) }
-    {
-        let mark = self.marks.get(index)?;
-        Some(packet_of(&self.segments, *mark))
-    }
-
-    /// The packet of an index.
-    #[inline(always)]
-    #[tactic(auto, using(std::proofs::lemmas::Option::gets))]
-    pub fn at(&self, index: usize) -> Packet
-        requires { index < length self.now }
-        ensures { result ≡ get_or self.now index result }
-    {
-        match self.get(index) {
-            Some(packet) => packet,
-            None => unreachable!(),
-        }
+/// The segment of an index, where it lies, if the packet there is one.
+pub fn segment_at(packets: &[Packet], index: usize) -> Option<&Segment>
+    ensures some { IfSome result (λ s. slice_get packets.now index ≡ Some (Packet.Segment s.now)) }
+    ensures none { IfNone result (IfSome (slice_get packets.now index) IsPassedOver) }
+{
+    match packets.get(index)? {
+        Packet::Segment(segment) => Some(segment),
+        Packet::Skipped(_) => None,
+        Packet::Refused(_) => None,
     }
 }

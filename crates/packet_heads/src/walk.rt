@@ -1,26 +1,15 @@
 //! The packets of a capture, made while it is read.
 
-ghost use Rattle.std.specs.Prelude.{◌≡◌, ◌<◌, ◌≤◌, ◌^◌, ◌⊎◌, [], ℕ, Err, IfErr, IfOk, IfSome, List, None, OnOk, Some};
+ghost use Rattle.std.specs.Prelude.{◌≡◌, ◌<◌, ◌≤◌, ◌^◌, [], ℕ, Err, IfErr, IfOk, IfSome, List, None, OnOk, Some};
 ghost use Rattle.std.specs.Prelude.{length, take};
-ghost use Rattle.input_output.specs.code.Front.{StandsInFront};
 ghost use Rattle.pcap_records.specs.Refusal.{refusal};
 ghost use Rattle.packet_heads.specs.code.Walk.{HasMade, HasMet};
 
-use crate::made::MadePackets;
 use crate::stage::PacketStage;
 use crate::visitor::PacketVisitor;
-use input_output::{Capture, FrontWalk, feed_rest};
-use pcap_records::{PcapFault, RecordWalk, refusal_in_chunks};
+use input_output::FrontWalk;
+use pcap_records::{PcapFault, RecordWalk};
 use std::alloc::{AllocError, Global};
-
-/// What a capture holds.
-#[derive(Drop)]
-pub struct CapturePackets {
-    /// What each record holds, in order.
-    pub packets: MadePackets,
-    /// The number of the record that the end of the capture cuts, if there is one.
-    pub cut: Option<u32>,
-}
 
 /// The packets of a capture, handed to a visitor as its bytes are fed.
 ///
@@ -38,6 +27,7 @@ impl<V: PacketVisitor + Drop> PacketWalk<V> {
         ensures ok { IfOk result (HasMade V.after (take 24 front.now)) }
         ensures taken { OnOk result (refusal front.now ≡ None) }
         ensures whole { OnOk result (24 ≤ length front.now) }
+        ensures short { OnOk result (length front.now < 2 ^ 31) }
         ensures err { IfErr result (λ e. refusal front.now ≡ Some e) }
     {
         let stage = PacketStage { count: 0, visitor };
@@ -47,39 +37,12 @@ impl<V: PacketVisitor + Drop> PacketWalk<V> {
         }
     }
 
-    /// What all packets of a capture made of the visitor, after this walk over a front of it, and the number of the
-    /// record that the end of the capture cuts; or the first refusal that applies.
+    /// What all packets of a capture made of the visitor, and the number of the record that the end of the capture
+    /// cuts; or the refusal of the capture.
     ///
-    /// Refusals are tested in the order of their numbers, from the header and the length alone. A capture that is not
-    /// refused is read whole: bytes at its end that hold no whole record are the cut record, and all before it counts.
-    /// [`PcapFault::OutOfMemory`] comes only where memory was wanting, for the visitor or for a record that crosses
-    /// chunks of the capture.
-    pub fn finish(
-        mut self,
-        alloc: Global,
-        capture: &Capture<'_>,
-    ) -> Result<(V, Option<u32>), PcapFault>
-        requires walk { StandsInFront (HasMade V.after) capture.now self }
-        // Nothing refuses the capture, and the visitor was handed a packet for each of its records: the decision on it.
-        ensures taken { OnOk result (refusal capture.now ≡ None) }
-        ensures met { IfOk result (λ found. HasMet V.after capture.now found.0 found.1) }
-        // What is refused is refused by the first refusal that applies, whatever memory there is.
-        ensures refused { IfSome (refusal capture.now) (λ e. result ≡ Err e) }
-        // Each fault other than want of memory is that refusal.
-        ensures err { IfErr result (λ e. (e ≡ PcapFault.OutOfMemory) ⊎ (refusal capture.now ≡ Some e)) }
-        ensures short { OnOk result (length capture.now < 2 ^ 31) }
-    {
-        if let Some(fault) = refusal_in_chunks(capture) {
-            return Err(fault);
-        }
-        match feed_rest(alloc, capture, &mut self) {
-            Ok(()) => self.end(),
-            Err(_) => Err(PcapFault::OutOfMemory),
-        }
-    }
-
-    /// The same, where the walk was fed all of the capture, whose bytes nobody need have kept: its header was taken, so
-    /// its length alone can refuse it. It takes no memory.
+    /// The walk is to have been fed all of the capture, whose bytes nobody need have kept: its header was taken, so its
+    /// length alone can refuse it. A capture that is not refused is read whole: bytes at its end that hold no whole
+    /// record are the cut record, and all before it counts. It takes no memory.
     pub fn end(self) -> Result<(V, Option<u32>), PcapFault>
         requires { (capture : List ℕ) × HasMade V.after capture self × (length capture ≤ 2 ^ 31) }
         ensures taken { (capture : List ℕ) → HasMade V.after capture self → OnOk result (refusal capture ≡ None) }
@@ -101,10 +64,6 @@ impl<V: PacketVisitor + Drop> PacketWalk<V> {
 
 impl<V: PacketVisitor + Drop> FrontWalk for PacketWalk<V> {
     ghost stands = { HasMade V.after };
-
-    fn fed(&self) -> usize {
-        self.records.fed()
-    }
 
     fn feed(&mut self, alloc: Global, more: &[u8]) -> Result<(), AllocError> {
         self.records.feed(alloc, more)

@@ -1,7 +1,7 @@
 //! Where the next record of a capture begins, and how to read it.
 
-ghost use Rattle.std.specs.Prelude.{◌≡◌, ◌≤◌, ◌+◌, ◌^◌, [], IfErr, IfNone, IfOk, IfSome, None, OnOk, Some, length};
-ghost use Rattle.pcap_records.specs.FileHeader.{link_of, number_of};
+ghost use Rattle.std.specs.Prelude.{◌≡◌, ◌<◌, ◌≤◌, ◌+◌, ◌^◌, [], IfErr, IfNone, IfOk, IfSome, None, OnOk, Some, length};
+ghost use Rattle.pcap_records.specs.FileHeader.{number_of};
 ghost use Rattle.pcap_records.specs.Refusal.{refusal};
 ghost use Rattle.pcap_records.specs.code.Walk.{HasPassed, IsNextRecord};
 
@@ -28,26 +28,17 @@ impl RecordCursor {
         ensures at { IfOk result (λ cursor. cursor.at ≡ 24) }
         ensures taken { OnOk result (refusal front.now ≡ None) }
         ensures whole { OnOk result (24 ≤ length front.now) }
+        ensures short { OnOk result (length front.now < 2 ^ 31) }
         ensures err { IfErr result (λ e. refusal front.now ≡ Some e) }
     {
         let header = header(front);
         match format_or_refusal(header, front.len()) {
-            Ok(format) => Ok(RecordCursor::of(format, header)),
+            Ok(format) => Ok(RecordCursor {
+                format,
+                link: link_in(format.endian, header),
+                at: FILE_HEADER,
+            }),
             Err(fault) => Err(fault),
-        }
-    }
-
-    /// The cursor behind this file header, which is of this format.
-    pub fn of(format: Format, header: &[u8]) -> RecordCursor
-        requires { 24 ≤ length header.now }
-        ensures format { result.format ≡ format }
-        ensures link { result.link ≡ link_of (number_of format.endian) header.now }
-        ensures at { result.at ≡ 24 }
-    {
-        RecordCursor {
-            format,
-            link: link_in(format.endian, header),
-            at: FILE_HEADER,
         }
     }
 

@@ -21,8 +21,8 @@ pub enum PcapFault {
     /// More than 2^31 - 1 bytes.
     #[error("fault 5")]
     TooLarge,
-    /// Memory ran out: for the table of records, packets or connections, or for a record's header that crosses chunks
-    /// of the capture.
+    /// Memory ran out: for the table of records, or for what is made of records; or for the bytes of a record that is
+    /// begun.
     #[error("fault 6")]
     OutOfMemory,
 }

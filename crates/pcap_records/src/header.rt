@@ -7,7 +7,7 @@ use crate::faults::PcapFault;
 use crate::format::{Endian, Format, format_of_magic};
 use crate::pcap_record::{ETHERNET, RAW_IP};
 use byteorder::{BigEndian, ByteOrder, LittleEndian};
-use input_output::{Capture, LIMIT};
+use input_output::LIMIT;
 
 /// The length of the file header in bytes.
 pub const FILE_HEADER: usize = 24;
@@ -68,18 +68,6 @@ pub(crate) fn header(capture: &[u8]) -> &[u8]
     ensures length { length result.now ≡ min 24 (length capture.now) }
 {
     &capture[..capture.len().min(FILE_HEADER)]
-}
-
-/// The header at the front of a capture in chunks, or what there is of it: the first chunk has room for it.
-pub(crate) fn header_in_chunks<'a>(capture: &Capture<'a>) -> &'a [u8]
-    ensures bytes { result.now ≡ header_of capture.now }
-    ensures length { length result.now ≡ min 24 (length capture.now) }
-{
-    if capture.len() == 0 {
-        &[]
-    } else {
-        header(capture.from(0))
-    }
 }
 
 /// The format that the header of a capture of this size tells, or the first refusal that applies.

@@ -3,9 +3,8 @@
 //! - [`RecordWalk`] is fed the bytes of a capture in turn (`input_output::FrontWalk`), and hands each record to a
 //!   [`RecordVisitor`] as soon as its last byte was fed. It takes the four magics of the format (either byte order,
 //!   microseconds or nanoseconds). It keeps no record, and of the bytes only those that begin one that is not whole.
-//! - [`records`] feeds it a capture in chunks (`input_output::Capture`), and returns the whole records in file order
-//!   and the number of the record that the end of the capture cuts, or the first refusal that applies, in the order of
-//!   [`PcapFault`].
+//! - [`records`] feeds it a whole capture, and returns the whole records in file order and the number of the record
+//!   that the end of the capture cuts, or the first refusal that applies, in the order of [`PcapFault`].
 //! - The contracts equate both answers with definitions over the bytes alone: `refusal` of `specs/Refusal.antt` looks
 //!   at the header and the length; `IsReading` of `specs/Reading.antt` is a relation by cases: 16 header bytes, the
 //!   captured bytes, then the rest. They share no offset and no loop with the code.
@@ -46,7 +45,7 @@ pub use format::{Endian, Format, format_of_magic};
 pub use header::{FILE_HEADER, MOST_BYTES, link_in};
 pub use nanos::Nanos;
 pub use pcap_record::{ETHERNET, RAW_IP, Record, Records};
-pub use reading::{records, refusal, refusal_in_chunks};
+pub use reading::{records, refusal};
 pub use rows::{RECORD_HEADER, captured_length};
 pub use visitor::RecordVisitor;
 pub use walk::RecordWalk;

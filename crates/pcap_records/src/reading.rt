@@ -1,18 +1,15 @@
-ghost use Rattle.std.specs.Prelude.{◌≡◌, ◌<◌, ◌^◌, ◌⊎◌, IfOk, IfErr, IfNone, IfSome, IsTrue, None, OnOk, Some, length};
-ghost use Rattle.std.specs.Prelude.{[]};
+ghost use Rattle.std.specs.Prelude.{◌≡◌, ◌<◌, ◌^◌, ◌⊎◌, IfOk, IfErr, IfSome, IsTrue, None, OnOk, Some, length};
 ghost use Rattle.pcap_records.specs.LinkType.{is_read};
 ghost use Rattle.pcap_records.specs.code.Place.{AreWithin, AreTimely};
-ghost use Rattle.pcap_records.specs.code.Walk.{HasPassed};
 ghost use Rattle.pcap_records.specs.Reading.{IsReading};
 ghost use Rattle.pcap_records.specs.Refusal.{refusal};
 
-use crate::cursor::RecordCursor;
 use crate::faults::PcapFault;
-use crate::header::{format_or_refusal, header, header_in_chunks};
+use crate::header::{FILE_HEADER, format_or_refusal, header};
 use crate::pcap_record::{Record, Records};
 use crate::visitor::RecordVisitor;
 use crate::walk::RecordWalk;
-use input_output::{Capture, feed_rest};
+use input_output::feed_rest;
 use std::alloc::{AllocError, Global};
 
 /// Why a capture with these bytes is refused, if it is: by its header and its length alone.
@@ -22,21 +19,13 @@ pub fn refusal(capture: &[u8]) -> Option<PcapFault>
     format_or_refusal(header(capture), capture.len()).err()
 }
 
-/// Why a capture in chunks is refused, if it is: by its header and its length alone.
-pub fn refusal_in_chunks(capture: &Capture<'_>) -> Option<PcapFault>
-    ensures is { result ≡ refusal capture.now }
-    ensures short { IfNone result (length capture.now < 2 ^ 31) }
-{
-    format_or_refusal(header_in_chunks(capture), capture.len()).err()
-}
-
 /// The records of a capture (file format version 2.4), or the first refusal that applies.
 ///
 /// Refusals are tested in the order of their numbers, from the header and the length alone. A capture that is not
 /// refused is read whole: bytes at its end that hold no whole record are the cut record, and all before it is kept.
 /// Times are in nanoseconds; a fraction above its usual range is used as it is. [`PcapFault::OutOfMemory`] comes only
-/// where the table of records could not grow, or a record, which crosses chunks of the capture, could not be gathered.
-pub fn records(alloc: Global, capture: &Capture<'_>) -> Result<Records, PcapFault>
+/// where memory was wanting, for the table of records or for the bytes that begin the cut record.
+pub fn records(alloc: Global, capture: &[u8]) -> Result<Records, PcapFault>
     // Nothing refuses the capture, and this is all that it holds.
     ensures ok { IfOk result (λ found. (refusal capture.now ≡ None) × IsReading capture.now found) }
     // What is refused is refused by the first refusal that applies, whatever memory there is.
@@ -51,13 +40,18 @@ pub fn records(alloc: Global, capture: &Capture<'_>) -> Result<Records, PcapFaul
     ensures linked { IfOk result (λ found. IsTrue (is_read found.link)) }
     ensures short { OnOk result (length capture.now < 2 ^ 31) }
 {
-    let header = header_in_chunks(capture);
-    match format_or_refusal(header, capture.len()) {
-        Ok(format) => match all_of(alloc, RecordCursor::of(format, header), capture) {
-            Ok(found) => Ok(found),
-            Err(_) => Err(PcapFault::OutOfMemory),
-        },
-        Err(fault) => Err(fault),
+    let list = RowList {
+        rows: Vec::new(alloc),
+    };
+    let mut walk = RecordWalk::begin(alloc, capture, list)?;
+    match feed_rest(alloc, capture, FILE_HEADER, &mut walk) {
+        Ok(()) => {
+            let link = walk.link();
+            let cut = walk.cut(walk.visitor().rows.len() as u32);
+            let RowList { rows } = walk.into_visitor();
+            Ok(Records { link, rows, cut })
+        }
+        Err(_) => Err(PcapFault::OutOfMemory),
     }
 }
 
@@ -82,25 +76,4 @@ impl RecordVisitor for RowList {
         self.rows.push(*row)?;
         Ok(())
     }
-}
-
-/// All that a capture holds, from the cursor behind its file header on.
-fn all_of(alloc: Global, cursor: RecordCursor, capture: &Capture<'_>) -> Result<Records, AllocError>
-    requires cursor { HasPassed capture.now [] cursor }
-    requires at { cursor.at ≡ 24 }
-    requires short { length capture.now < 2 ^ 31 }
-    ensures reading { IfOk result (IsReading capture.now) }
-    ensures placed { IfOk result (λ found. AreWithin (length capture.now) found.rows.items) }
-    ensures timely { IfOk result (λ found. AreTimely found.rows.items) }
-    ensures linked { IfOk result (λ found. IsTrue (is_read found.link)) }
-{
-    let list = RowList {
-        rows: Vec::new(alloc),
-    };
-    let mut walk = RecordWalk::of(alloc, cursor, list);
-    feed_rest(alloc, capture, &mut walk)?;
-    let link = walk.link();
-    let cut = walk.cut(walk.visitor().rows.len() as u32);
-    let RowList { rows } = walk.into_visitor();
-    Ok(Records { link, rows, cut })
 }

@@ -60,10 +60,15 @@ impl<V: RecordVisitor + Drop> RecordWalk<V> {
         ensures ok { IfOk result (HasFed V.after (take 24 front.now)) }
         ensures taken { OnOk result (refusal front.now ≡ None) }
         ensures whole { OnOk result (24 ≤ length front.now) }
+        ensures short { OnOk result (length front.now < 2 ^ 31) }
         ensures err { IfErr result (λ e. refusal front.now ≡ Some e) }
     {
         match RecordCursor::begin(front) {
-            Ok(cursor) => Ok(RecordWalk::of(alloc, cursor, visitor)),
+            Ok(cursor) => Ok(RecordWalk {
+                cursor,
+                begun: Vec::new(alloc),
+                visitor,
+            }),
             Err(fault) => Err(fault),
         }
     }
@@ -94,17 +99,12 @@ impl<V: RecordVisitor + Drop> RecordWalk<V> {
         None
     }
 
-    /// A walk that was fed the file header in front of this cursor.
-    pub(crate) fn of(alloc: Global, cursor: RecordCursor, visitor: V) -> RecordWalk<V>
-        ensures cursor { result.cursor ≡ cursor }
-        ensures begun { result.begun.items ≡ [] }
-        ensures visitor { result.visitor ≡ visitor }
+    /// How many bytes it was fed.
+    fn fed(&self) -> usize
+        requires { (front : List ℕ) × HasFed V.after front self.now × (length front ≤ 2 ^ 31) }
+        ensures { (front : List ℕ) → HasFed V.after front self.now → result ≡ length front }
     {
-        RecordWalk {
-            cursor,
-            begun: Vec::new(alloc),
-            visitor,
-        }
+        self.cursor.at + self.begun.len()
     }
 
     /// Adds to the record that is begun what it lacks, as far as these bytes go, and hands it on where it is whole
@@ -146,10 +146,6 @@ impl<V: RecordVisitor + Drop> RecordWalk<V> {
 
 impl<V: RecordVisitor + Drop> FrontWalk for RecordWalk<V> {
     ghost stands = { HasFed V.after };
-
-    fn fed(&self) -> usize {
-        self.cursor.at + self.begun.len()
-    }
 
     fn feed(&mut self, alloc: Global, more: &[u8]) -> Result<(), AllocError> {
         let used = self.complete(alloc, more)?;

@@ -8,24 +8,26 @@ use Rattle.audit_terms.proofs.ShownFindings.{in_order-shown, shown-append}
 use Rattle.quiet_pass.specs.code.QuietPass.{AreNamed}
 use Rattle.stream_credit.proofs.Words.{◌≡◌, ℕ, ◌<◌, ◌==◌, false, List, [], ◌∷◌, ◌++◌, refl, sym, ap, ◌∙◌}
 use Rattle.stream_credit.proofs.Words.{append-nil, append_assoc, cases_eq, eq-eqb, ne_eqb, inl, inr}
-use Rattle.stream_credit.proofs.Words.{AllByRecursion, Finding, flat_map, if◌then◌else◌, in_order, shown}
+use Rattle.stream_credit.proofs.Words.{AllByRecursion, Bool, Finding, flat_map, if◌then◌else◌, in_order, shown}
 
 -- ---- lists of findings
 
 -- what is shown in order depends on what is shown
-pub alike-shown : (one other : List Finding) → shown false one ≡ shown false other
-    → shown false (in_order one) ≡ shown false (in_order other)
-alike-shown one other e = sym (in_order-shown false one) ∙ ap in_order e ∙ in_order-shown false other
+pub alike-shown : (frames_shown : Bool) (one other : List Finding) → shown frames_shown one ≡ shown frames_shown other
+    → shown frames_shown (in_order one) ≡ shown frames_shown (in_order other)
+alike-shown frames_shown one other e = sym (in_order-shown frames_shown one) ∙ ap in_order e
+    ∙ in_order-shown frames_shown other
 
 -- and on what is shown of its parts, each in order
-pub alike-parts : (front back one other : List Finding) → in_order front ≡ in_order back
-    → in_order (shown false one) ≡ in_order (shown false other)
-    → shown false (in_order (front ++ one)) ≡ shown false (in_order (back ++ other))
-alike-parts front back one other p q =
-    sym (in_order-shown false (front ++ one)) ∙ ap in_order (shown-append false front one)
-    ∙ in_order-alike (shown false front) (shown false back) (shown false one) (shown false other)
-    (in_order-shown false front ∙ ap (shown false) p ∙ sym (in_order-shown false back)) q
-    ∙ ap in_order (sym (shown-append false back other)) ∙ in_order-shown false (back ++ other)
+pub alike-parts : (frames_shown : Bool) (front back one other : List Finding) → in_order front ≡ in_order back
+    → in_order (shown frames_shown one) ≡ in_order (shown frames_shown other)
+    → shown frames_shown (in_order (front ++ one)) ≡ shown frames_shown (in_order (back ++ other))
+alike-parts frames_shown front back one other p q =
+    sym (in_order-shown frames_shown (front ++ one)) ∙ ap in_order (shown-append frames_shown front one)
+    ∙ in_order-alike (shown frames_shown front) (shown frames_shown back) (shown frames_shown one)
+    (shown frames_shown other)
+    (in_order-shown frames_shown front ∙ ap (shown frames_shown) p ∙ sym (in_order-shown frames_shown back)) q
+    ∙ ap in_order (sym (shown-append frames_shown back other)) ∙ in_order-shown frames_shown (back ++ other)
 
 in_order-swap : (a b c : List Finding) → in_order (a ++ (b ++ c)) ≡ in_order (b ++ (a ++ c))
 in_order-swap a b c =

@@ -12,6 +12,7 @@ use Rattle.stream_credit.proofs.Words.{AllByRecursion, Change, Finding, Sides, S
 use Rattle.stream_credit.proofs.Words.{idle_stream, initial_after, shown, stream_after, stream_said}
 use Rattle.stream_credit.proofs.Words.{◌+◌, drop, length}
 use Rattle.quiet_pass.proofs.RowLists.{each-of, parity-zip}
+use Rattle.quiet_pass.proofs.StillLemmas.{unshown-change}
 use Rattle.quiet_pass.proofs.StreamLemmas.{of-rows, rows-of, step-alone, unmoved-entry}
 use Rattle.quiet_pass.specs.code.HeldStreams.{held}
 use Rattle.quiet_pass.specs.code.Rows.{AreRisingFrom, AreRowsSaid, AreStepped, IsRowMoved, IsRowOfParity, IsRowSaid}
@@ -19,6 +20,7 @@ use Rattle.quiet_pass.specs.code.Rows.{IsRowStepped, entry_in, row_said}
 use Rattle.quiet_pass.specs.code.Streams.{AreNames, AreRowsOf, AreStreams, IsChangeSaid}
 use Rattle.quiet_pass.specs.declared.kept_streams.Streams.{Streams}
 use Rattle.quiet_pass.specs.declared.opened_rows.Row.{Row}
+use Rattle.stream_credit.specs.declared.stream_standings.Standings.{Standings}
 
 -- ---- the streams of rows
 
@@ -105,7 +107,7 @@ both-kept false b h = cc
 
 -- ---- rows after a step without a frame
 
-module _ (initial : Sides ℕ) (step : Step) (alone : step.frame ≡ None) where
+module _ (frames_shown : Bool) (initial : Sides ℕ) (step : Step) (alone : step.frame ≡ None) where
   idle-said : (s : ℕ) → stream_said s initial idle_stream step ≡ []
   idle-said s = rw alone refl
 
@@ -152,8 +154,10 @@ module _ (initial : Sides ℕ) (step : Step) (alone : step.frame ≡ None) where
       pub rows : AreRowsOf base old
       pub is : (s : ℕ) → 0 < s → streams s ≡ raise (base s)
       pub mid : List Finding
-      pub one : shown false mid ≡ shown false before ++ shown false (flat_map said-of old.opened.items)
-      pub two : shown false after ≡ shown false mid ++ shown false (flat_map said-of old.promised.items)
+      pub one : shown frames_shown mid
+          ≡ shown frames_shown before ++ shown frames_shown (flat_map said-of old.opened.items)
+      pub two : shown frames_shown after
+          ≡ shown frames_shown mid ++ shown frames_shown (flat_map said-of old.promised.items)
 
     own-odd : (old : Streams) {before after : List Finding} (streams : ℕ → Stream)
         → AreRaised old before after streams → AllByRecursion (IsRowOfParity 1) old.opened.items
@@ -175,18 +179,18 @@ module _ (initial : Sides ℕ) (step : Step) (alone : step.frame ≡ None) where
 
     all-said : (old : Streams) {before after : List Finding} (streams : ℕ → Stream)
         → AreRaised old before after streams
-        → shown false after ≡ shown false before
-        ++ shown false (flat_map (λ s. stream_said s initial (streams s) step)
+        → shown frames_shown after ≡ shown frames_shown before
+        ++ shown frames_shown (flat_map (λ s. stream_said s initial (streams s) step)
         (named_in old.opened.items ++ named_in old.promised.items))
     all-said old {before} streams r =
         let rule = λ (s : ℕ). stream_said s initial (streams s) step in
         let one = flat_map said-of old.opened.items in
         let two = flat_map said-of old.promised.items in
-        r.two ∙ ap (λ l. l ++ shown false two) r.one
-        ∙ append_assoc (shown false before) (shown false one) (shown false two)
-        ∙ ap (λ l. shown false before ++ l)
-        (sym (shown-append false one two)
-        ∙ ap (shown false)
+        r.two ∙ ap (λ l. l ++ shown frames_shown two) r.one
+        ∙ append_assoc (shown frames_shown before) (shown frames_shown one) (shown frames_shown two)
+        ∙ ap (λ l. shown frames_shown before ++ l)
+        (sym (shown-append frames_shown one two)
+        ∙ ap (shown frames_shown)
         (ap₂ (λ (a b : List Finding). a ++ b)
         (rows-said 1 0 old.opened.items streams r.rows.opened (own-odd old streams r)
         (λ s above p. r.is s above ∙ ap raise (r.rows.odd s p)))
@@ -199,23 +203,25 @@ module _ (initial : Sides ℕ) (step : Step) (alone : step.frame ≡ None) where
         → ((streams : ℕ → Stream) → AreStreams streams old → AreRaised old before after streams)
         → ((streams : ℕ → Stream) → AreStreams streams old
         → Kept (λ s. stream_after s initial (streams s) step))
-        → IsChangeSaid initial step (λ streams. AreStreams streams old) Kept before after
+        → IsChangeSaid frames_shown initial step (λ streams. AreStreams streams old) Kept before after
     said-by {old} Kept all met = record {
       some = named_in old.opened.items ++ named_in old.promised.items;
       names = λ streams h. names-of (all streams h).base old (all streams h).rows;
       said = λ streams h. all-said old streams (all streams h);
       others = λ streams h other above none.
           let parts = none-both (λ n. n == other) (named_in old.opened.items) (named_in old.promised.items) none in
-          ap (λ (entry : Stream). shown false (stream_said other initial entry step))
-          (unnamed old streams (all streams h) other above parts.0 parts.1) ∙ ap (shown false) (idle-said other);
+          ap (λ (entry : Stream). shown frames_shown (stream_said other initial entry step))
+          (unnamed old streams (all streams h) other above parts.0 parts.1) ∙ ap (shown frames_shown) (idle-said other);
       met = met;
     }
 
   -- where rows hold all of the streams
   pub change-said : {odd even : Bool} {old new : Streams} {before mid after : List Finding} → old.shifted ≡ None
-      → new.shifted ≡ None → AreRowsSaid initial step odd old.opened.items new.opened.items before mid
-      → AreRowsSaid initial step even old.promised.items new.promised.items mid after → (odd && even) ≡ true
-      → IsChangeSaid initial step (λ streams. AreStreams streams old) (λ streams. AreStreams streams new) before after
+      → new.shifted ≡ None → AreRowsSaid frames_shown initial step odd old.opened.items new.opened.items before mid
+      → AreRowsSaid frames_shown initial step even old.promised.items new.promised.items mid after
+      → (odd && even) ≡ true
+      → IsChangeSaid frames_shown initial step (λ streams. AreStreams streams old)
+      (λ streams. AreStreams streams new) before after
   change-said {odd} {even} {old} {new} {before} {mid} {after} none still o e k =
       said-by (λ entry. entry) refl (λ next. AreStreams next new)
       (λ streams h. record {
@@ -246,18 +252,21 @@ module _ (initial : Sides ℕ) (step : Step) (alone : step.frame ≡ None) where
 
 -- ---- a change that moves no window
 
-pub quiet-said : (initial : Sides ℕ) (number : ℕ) (change : Option Change) (Kept : (ℕ → Stream) → Type 0)
+pub quiet-said : (frames_shown : Bool) (initial : Sides ℕ) (number : ℕ) (change : Option Change) (Kept : (ℕ
+    → Stream) → Type 0)
     → ((f g : ℕ → Stream) → ((o : ℕ) → 0 < o → f o ≡ g o) → Kept f → Kept g) → (found : List Finding)
     → initial ≡ initial_after change initial
-    → IsChangeSaid initial (change_alone number change) Kept Kept found found
+    → IsChangeSaid frames_shown initial (change_alone number change) Kept Kept found found
 unfolding IsDistinct
-quiet-said initial number change Kept same found is =
+quiet-said frames_shown initial number change Kept same found is =
     let still = λ (s : ℕ) (entry : Stream).
     step-alone s initial initial number change entry entry (unmoved-entry initial entry) is in record {
       some = [];
       names = λ streams h. record { named = tt; small = tt; once = tt };
-      said = λ streams h. sym (append-nil (shown false found));
-      others = λ streams h other above none. none-shown _ (still other (streams other)).said;
+      said = λ streams h. sym (append-nil (shown frames_shown found));
+      others = λ streams h other above none.
+          unshown-change frames_shown other initial initial number change (streams other) (streams other)
+          (unmoved-entry initial (streams other)) is (λ _. refl) (λ _. refl);
       met = λ streams h.
           same streams (λ s. stream_after s initial (streams s) (change_alone number change))
           (λ s above. (still s (streams s)).after) h;
@@ -265,17 +274,20 @@ quiet-said initial number change Kept same found is =
 
 -- ---- one row
 
-pub row-quiet : (initial : Sides ℕ) (step : Step) (old new : Row) {after : Sides ℕ} (found : List Finding)
-    → step.frame ≡ None → after ≡ initial_after step.change initial → IsRowMoved initial after old new
-    → IsRowSaid initial step true old new found found
-row-quiet initial step old new {after} found alone is m =
+pub row-quiet : (frames_shown : Bool) (initial : Sides ℕ) (step : Step) (old new : Row) {after : Sides ℕ}
+    (found : List Finding) → step.frame ≡ None → after ≡ initial_after step.change initial
+    → IsRowMoved initial after old new → (frames_shown ≡ true → new.standings ≡ old.standings)
+    → IsRowSaid frames_shown initial step true old new found found
+row-quiet frames_shown initial step old new {after} found alone is m still =
     let one = step-alone old.stream initial after step.number step.change (held old.standings) (held new.standings)
     m.moved is in
     let same : step ≡ change_alone step.number step.change = rw (← alone) refl in record {
-      said = sym (append-nil (shown false found))
-          ∙ ap (λ l. shown false found ++ l)
-          (sym (ap (λ (step : Step). shown false (stream_said old.stream initial (held old.standings) step)) same
-          ∙ none-shown _ one.said));
+      said = sym (append-nil (shown frames_shown found))
+          ∙ ap (λ l. shown frames_shown found ++ l)
+          (sym (ap (λ (step : Step). shown frames_shown (stream_said old.stream initial (held old.standings) step))
+          same ∙ unshown-change frames_shown old.stream initial after step.number step.change (held old.standings)
+          (held new.standings) m.moved is (λ e. ap (λ (s : Standings). (held s).window.client) (still e))
+          (λ e. ap (λ (s : Standings). (held s).window.server) (still e))));
       stepped = λ _. record {
         same = m.same;
         after = one.after
@@ -283,47 +295,50 @@ row-quiet initial step old new {after} found alone is m =
       };
     }
 
-pub row-said : (initial : Sides ℕ) (step : Step) (row : Row) (before : List Finding) {entry : Stream}
+pub row-said : (frames_shown : Bool) (initial : Sides ℕ) (step : Step) (row : Row)
+    (before : List Finding) {entry : Stream}
     {after : List Finding} → entry ≡ held row.standings → after ≡ before ++ stream_said row.stream initial entry step
-    → shown false after ≡ shown false before ++ shown false (row_said initial step row)
-row-said initial step row before is said =
-    ap (shown false)
+    → shown frames_shown after ≡ shown frames_shown before ++ shown frames_shown (row_said initial step row)
+row-said frames_shown initial step row before is said =
+    ap (shown frames_shown)
     (said ∙ ap (λ (entry : Stream). before ++ stream_said row.stream initial entry step) is)
-    ∙ shown-append false before (row_said initial step row)
+    ∙ shown-append frames_shown before (row_said initial step row)
 
 -- one row more of those that were gone through
-pub said-more : (initial : Sides ℕ) (step : Step) (old : List Row) (at : ℕ) (row : Row)
+pub said-more : (frames_shown : Bool) (initial : Sides ℕ) (step : Step) (old : List Row) (at : ℕ) (row : Row)
     (found after : List Finding) {whole : List Finding} → row ≡ get_or old at row → at < length old
-    → shown false found ++ shown false (flat_map (row_said initial step) (drop at old)) ≡ whole
-    → shown false after ≡ shown false found ++ shown false (row_said initial step row)
-    → shown false after ++ shown false (flat_map (row_said initial step) (drop (at + 1) old)) ≡ whole
-said-more initial step old at row found after is inside was said =
+    → shown frames_shown found ++ shown frames_shown (flat_map (row_said initial step) (drop at old)) ≡ whole
+    → shown frames_shown after ≡ shown frames_shown found ++ shown frames_shown (row_said initial step row)
+    → shown frames_shown after ++ shown frames_shown (flat_map (row_said initial step) (drop (at + 1) old)) ≡ whole
+said-more frames_shown initial step old at row found after is inside was said =
     let rest = flat_map (row_said initial step) (drop (at + 1) old) in
-    ap (λ l. l ++ shown false rest) said
-    ∙ append_assoc (shown false found) (shown false (row_said initial step row)) (shown false rest)
-    ∙ ap (λ l. shown false found ++ l) (sym (shown-append false (row_said initial step row) rest))
-    ∙ ap (λ l. shown false found ++ shown false (flat_map (row_said initial step) l))
+    ap (λ l. l ++ shown frames_shown rest) said
+    ∙ append_assoc (shown frames_shown found) (shown frames_shown (row_said initial step row)) (shown frames_shown rest)
+    ∙ ap (λ l. shown frames_shown found ++ l) (sym (shown-append frames_shown (row_said initial step row) rest))
+    ∙ ap (λ l. shown frames_shown found ++ shown frames_shown (flat_map (row_said initial step) l))
     (sym (drop-at old at row is inside)) ∙ was
 
-pub said-all : (initial : Sides ℕ) (step : Step) (old : List Row) (at : ℕ) (found : List Finding) {whole : List Finding}
+pub said-all : (frames_shown : Bool) (initial : Sides ℕ) (step : Step) (old : List Row) (at : ℕ)
+    (found : List Finding) {whole : List Finding}
     → drop at old ≡ []
-    → shown false found ++ shown false (flat_map (row_said initial step) (drop at old)) ≡ whole
-    → shown false found ≡ whole
-said-all initial step old at found none was =
-    sym (append-nil (shown false found))
-    ∙ ap (λ l. shown false found ++ shown false (flat_map (row_said initial step) l)) (sym none) ∙ was
+    → shown frames_shown found ++ shown frames_shown (flat_map (row_said initial step) (drop at old)) ≡ whole
+    → shown frames_shown found ≡ whole
+said-all frames_shown initial step old at found none was =
+    sym (append-nil (shown frames_shown found))
+    ∙ ap (λ l. shown frames_shown found ++ shown frames_shown (flat_map (row_said initial step) l)) (sym none) ∙ was
 
 -- ---- what was found is put behind other findings
 
-pub said-behind : {initial : Sides ℕ} {step : Step} {Was Kept : (ℕ → Stream) → Type 0} {own after : List Finding}
-    (before : List Finding) → IsChangeSaid initial step Was Kept [] own → after ≡ before ++ own
-    → IsChangeSaid initial step Was Kept before after
-said-behind {own = own} before said is = record {
+pub said-behind : {frames_shown : Bool} {initial : Sides ℕ} {step : Step} {Was Kept : (ℕ → Stream)
+    → Type 0} {own after : List Finding}
+    (before : List Finding) → IsChangeSaid frames_shown initial step Was Kept [] own → after ≡ before ++ own
+    → IsChangeSaid frames_shown initial step Was Kept before after
+said-behind {frames_shown} {own = own} before said is = record {
   some = said.some;
   names = said.names;
   said = λ streams h.
-      ap (shown false) is ∙ shown-append false before own
-      ∙ ap (λ (l : List Finding). shown false before ++ l) (said.said streams h);
+      ap (shown frames_shown) is ∙ shown-append frames_shown before own
+      ∙ ap (λ (l : List Finding). shown frames_shown before ++ l) (said.said streams h);
   others = said.others;
   met = said.met;
 }

@@ -1,8 +1,9 @@
 -- What the machine has said of the frames so far, and of all.
 use Rattle.std.specs.List.{IsDistinct, list_any}
-use Rattle.std.proofs.Common.{◌≢◌, ◌≤◌, find}
-use Rattle.audit_core.specs.laws.Apart.{EachPair}
-use Rattle.audit_core.specs.laws.Streams.{StreamsAreNamedOnce, StreamsAreThoseMet}
+use Rattle.std.proofs.Common.{◌≢◌, ◌≤◌, drop, find, get_or, take}
+use Rattle.std.proofs.lemmas.List.{take-append-drop, take_more}
+use Rattle.audit_terms.specs.laws.Pairs.{EachPair}
+use Rattle.audit_terms.specs.laws.Streams.{StreamsAreNamedOnce, StreamsAreThoseMet}
 use Rattle.audit_terms.proofs.FindingLists.{each-append, each-weaker}
 use Rattle.audit_terms.proofs.ShownFindings.{shown-append}
 use Rattle.audit_terms.proofs.UptoStop.{upto_stop-shown}
@@ -127,14 +128,6 @@ pub orderly-upto : (low : ℕ) (front back : List Frame) → IsOrderlyFrom low (
 orderly-upto low [] back h = tt
 orderly-upto low (one ∷ front) back h = (h.0, h.1, orderly-upto (one.number + 1) front back h.2)
 
--- of such frames, those up to one of them
-pub upto-next : (front : List Frame) (frame : Frame) (left all : List Frame) {back : List Frame} → back ≡ frame ∷ left
-    → front ++ back ≡ all → IsOrderly all → ((front ++ frame ∷ []) ++ left ≡ all) × IsOrderly (front ++ frame ∷ [])
-upto-next front frame left all is same orderly =
-    let whole : (front ++ frame ∷ []) ++ left ≡ all =
-    append_assoc front (frame ∷ []) left ∙ ap (λ l. front ++ l) (sym is) ∙ same in
-    (whole, orderly-upto 0 (front ++ frame ∷ []) left (subst IsOrderly (sym whole) orderly))
-
 orderly-more : (low : ℕ) (frames : List Frame) (frame : Frame) → IsOrderlyFrom low frames
     → AreBelow frame.number frames → IsInRange frame → low ≤ frame.number → IsOrderlyFrom low (frames ++ frame ∷ [])
 orderly-more low [] frame h below range least = (least, range, tt)
@@ -227,11 +220,12 @@ named-some frame (one ∷ said) frames some = refl
 
 pub none-added : (frame : Frame) (old new : FoundPass) {said : List Finding} → said ≡ []
     → new.found ≡ old.found → new.shown_at ≡ old.shown_at → new.has_stopped ≡ list_any stops said
-    → IsAdded frame said old new
-none-added frame old new {said} none found shown_at stopped = record {
+    → new.frames_shown ≡ old.frames_shown → IsAdded frame said old new
+none-added frame old new {said} none found shown_at stopped same = record {
   found = rw (found, none) (sym (append-nil old.found.items));
   shown_at = rw (shown_at, none) refl;
   stopped = stopped;
+  same = same;
 }
 
 -- one frame more, at which this is found, or nothing
@@ -274,31 +268,37 @@ module _ {frames : List Frame} {old : FoundPass} (frame : Frame) (h : IsFoundAft
       ∙ sym (append-nil (h.met ++ frame ∷ []))
 
   shown-here : (streams : List ℕ) (here : List Finding)
-      → shown false (said streams (state_after h.met) frame) ≡ here → HaveAllMet (h.met ++ frame ∷ []) streams
-      → shown false (full_from streams pass_start (h.met ++ frame ∷ [])) ≡ old.found.items ++ here
+      → shown old.frames_shown (said streams (state_after h.met) frame) ≡ here
+      → HaveAllMet (h.met ++ frame ∷ []) streams
+      → shown old.frames_shown (full_from streams pass_start (h.met ++ frame ∷ [])) ≡ old.found.items ++ here
   shown-here streams here e name =
-      ap (shown false) (full-more streams frame pass_start h.met)
-      ∙ shown-append false (full_from streams pass_start h.met) (said streams (state_after h.met) frame)
-      ∙ ap (λ l. l ++ shown false (said streams (state_after h.met) frame))
+      ap (shown old.frames_shown) (full-more streams frame pass_start h.met)
+      ∙ shown-append old.frames_shown (full_from streams pass_start h.met) (said streams (state_after h.met) frame)
+      ∙ ap (λ l. l ++ shown old.frames_shown (said streams (state_after h.met) frame))
       (h.shown streams (have-front (frame ∷ []) name))
       ∙ ap (λ l. old.found.items ++ l) e
 
   pub quiet-more : {new : FoundPass} → IsQuietStep (state_after h.met) frame new.pass → new.found ≡ old.found
-      → new.shown_at ≡ old.shown_at → new.has_stopped ≡ old.has_stopped → IsFoundAfter (frames ++ frame ∷ []) new
-  quiet-more step found shown_at stopped = record {
+      → new.shown_at ≡ old.shown_at → new.has_stopped ≡ old.has_stopped → old.frames_shown ≡ false
+      → new.frames_shown ≡ old.frames_shown → IsFoundAfter (frames ++ frame ∷ []) new
+  quiet-more {new} step found shown_at stopped hidden same = record {
     met = h.met ++ frame ∷ [];
     rest = [];
     parts = whole;
     little = all-little;
     shown = λ streams name.
-        shown-here streams [] (none-shown _ (step.shown streams name.named)) name
+        ap (λ (shows : Bool). shown shows (full_from streams pass_start (h.met ++ frame ∷ []))) same
+        ∙ shown-here streams []
+        (ap (λ (shows : Bool). shown shows (said streams (state_after h.met) frame)) hidden
+        ∙ none-shown _ (step.shown streams name.named)) name
         ∙ append-nil old.found.items ∙ ap (λ l. l.items) (sym found);
     goes_on = λ e. (refl, rw (state-more frame pass_start h.met) step.stands);
     stopped = λ e. rw found (h.stopped (sym stopped ∙ e));
     kept = λ _. rw (found, shown_at) (past frame (h.kept (orderly-upto 0 frames (frame ∷ []) orderly)));
   }
 
-  pub said-more : {new : FoundPass} (here : List Finding) → IsSaidStep (state_after h.met) frame here new.pass
+  pub said-more : {new : FoundPass} (here : List Finding)
+      → IsSaidStep old.frames_shown (state_after h.met) frame here new.pass
       → IsAdded frame here old new → IsFoundAfter (frames ++ frame ∷ []) new
   said-more here step added = record {
     met = h.met ++ frame ∷ [];
@@ -306,7 +306,8 @@ module _ {frames : List Frame} {old : FoundPass} (frame : Frame) (h : IsFoundAft
     parts = whole;
     little = all-little;
     shown = λ streams name.
-        shown-here streams here (step.shown streams (have-own h.met name)) name ∙ sym added.found;
+        ap (λ (shows : Bool). shown shows (full_from streams pass_start (h.met ++ frame ∷ []))) added.same
+        ∙ shown-here streams here (step.shown streams (have-own h.met name)) name ∙ sym added.found;
     goes_on = λ e. (refl, rw (state-more frame pass_start h.met) (step.goes_on (sym added.stopped ∙ e)));
     stopped = λ e. rw added.found (any-back stops old.found.items here (sym added.stopped ∙ e));
     kept = λ _. rw (added.found, added.shown_at)
@@ -316,34 +317,83 @@ module _ {frames : List Frame} {old : FoundPass} (frame : Frame) (h : IsFoundAft
 -- the same of what the code says, whose machine did not meet the frame quietly just before
 pub said-after : (frame : Frame) (old mid new : FoundPass) → old.has_stopped ≡ false → MovesLittle frame
     → mid.pass ≡ old.pass → HasSaid frame mid new → mid.found ≡ old.found → mid.shown_at ≡ old.shown_at
+    → mid.frames_shown ≡ old.frames_shown
     → (frames : List Frame) → IsFoundAfter frames old → IsOrderly (frames ++ frame ∷ [])
     → IsFoundAfter (frames ++ frame ∷ []) new
-said-after frame old mid new on small left has found shown_at frames before orderly =
+said-after frame old mid new on small left has found shown_at same frames before orderly =
     said-more frame before on small orderly has.said
-    (has.step (state_after before.met) (rw left (before.goes_on on).1))
+    (rw same at (has.step (state_after before.met) (rw left (before.goes_on on).1)))
     (record {
       found = rw (← found) has.added.found;
       shown_at = rw (← shown_at) has.added.shown_at;
       stopped = has.added.stopped;
+      same = has.added.same ∙ same;
     })
 
 -- ---- all frames
 
+-- the frames up to this one
+pub with-next : (frames : List Frame) (i : ℕ) (f : Frame) → i < length frames → f ≡ get_or frames i f
+    → take (i + 1) frames ≡ take i frames ++ f ∷ []
+with-next frames i f low is =
+    take_more frames i f low ∙ ap (λ (g : Frame). take i frames ++ g ∷ []) (sym is)
+
+-- so they are orderly, behind those before them
+pub met-next : (before frames : List Frame) (i : ℕ) (f : Frame) → i < length frames → f ≡ get_or frames i f
+    → IsOrderly (before ++ frames) → IsOrderly ((before ++ take i frames) ++ f ∷ [])
+met-next before frames i f low is orderly =
+    let whole : (before ++ take (i + 1) frames) ++ drop (i + 1) frames ≡ before ++ frames =
+    append_assoc before (take (i + 1) frames) (drop (i + 1) frames)
+    ∙ ap (λ (l : List Frame). before ++ l) (take-append-drop (i + 1) frames) in
+    let front = orderly-upto 0 (before ++ take (i + 1) frames) (drop (i + 1) frames)
+    (subst IsOrderly (sym whole) orderly) in
+    subst IsOrderly
+    (ap (λ (l : List Frame). before ++ l) (with-next frames i f low is)
+    ∙ sym (append_assoc before (take i frames) (f ∷ []))) front
+
+-- a part that shows something is not cut away
+upto-some : (found rest : List Finding) → found ≢ [] → upto_stop (found ++ rest) ≢ []
+upto-some [] rest some e = some refl
+upto-some (one ∷ found) rest some e = grind (arith, e)
+
 module _ (met : StreamsAreThoseMet) (once : StreamsAreNamedOnce) {frames : List Frame} {machine : FoundPass}
     (h : IsFoundAfter frames machine) where
-  past-shown : List Finding
-  past-shown = shown false (full_from (streams_of frames) (state_after h.met) h.rest)
+  -- what all frames show, of which the machine met the first ones
+  some-shown : (later whole : List Frame) → whole ≡ frames ++ later
+      → shown machine.frames_shown (full_from (streams_of whole) pass_start whole)
+      ≡ machine.found.items
+      ++ shown machine.frames_shown (full_from (streams_of whole) (state_after h.met) (h.rest ++ later))
+  some-shown later whole parts =
+      let all = parts ∙ ap (λ (l : List Frame). l ++ later) h.parts ∙ append_assoc h.met h.rest later in
+      ap (λ l. shown machine.frames_shown (full_from (streams_of whole) pass_start l)) all
+      ∙ ap (shown machine.frames_shown) (full-append (streams_of whole) pass_start h.met (h.rest ++ later))
+      ∙ shown-append machine.frames_shown (full_from (streams_of whole) pass_start h.met)
+      (full_from (streams_of whole) (state_after h.met) (h.rest ++ later))
+      ∙ ap (λ l. l
+      ++ shown machine.frames_shown (full_from (streams_of whole) (state_after h.met) (h.rest ++ later)))
+      (h.shown (streams_of whole)
+      (have-front (h.rest ++ later) (subst (λ l. HaveAllMet l (streams_of whole)) all (have-all met once whole))))
 
-  all-shown : shown false (full_from (streams_of frames) pass_start frames) ≡ machine.found.items ++ past-shown
+  -- so they show something if these do
+  pub some-found : (later whole : List Frame) → whole ≡ frames ++ later → machine.found.items ≢ []
+      → shown machine.frames_shown (pass whole) ≢ []
+  some-found later whole parts some =
+      subst (λ (l : List Finding). l ≢ [])
+      (ap upto_stop (sym (some-shown later whole parts))
+      ∙ upto_stop-shown machine.frames_shown (full_from (streams_of whole) pass_start whole))
+      (upto-some machine.found.items
+      (shown machine.frames_shown (full_from (streams_of whole) (state_after h.met) (h.rest ++ later))) some)
+
+  past-shown : List Finding
+  past-shown = shown machine.frames_shown (full_from (streams_of frames) (state_after h.met) h.rest)
+
+  all-shown : shown machine.frames_shown (full_from (streams_of frames) pass_start frames)
+      ≡ machine.found.items ++ past-shown
   unfolding past-shown
   all-shown =
-      ap (λ l. shown false (full_from (streams_of frames) pass_start l)) h.parts
-      ∙ ap (shown false) (full-append (streams_of frames) pass_start h.met h.rest)
-      ∙ shown-append false (full_from (streams_of frames) pass_start h.met)
-      (full_from (streams_of frames) (state_after h.met) h.rest)
-      ∙ ap (λ l. l ++ shown false (full_from (streams_of frames) (state_after h.met) h.rest))
-      (h.shown (streams_of frames)
-      (have-front h.rest (subst (λ l. HaveAllMet l (streams_of frames)) h.parts (have-all met once frames))))
+      some-shown [] frames (sym (append-nil frames))
+      ∙ ap (λ l. machine.found.items
+      ++ shown machine.frames_shown (full_from (streams_of frames) (state_after h.met) l)) (append-nil h.rest)
 
   upto-met : (stopped : Bool) → machine.has_stopped ≡ stopped
       → upto_stop machine.found.items ≡ upto_stop (machine.found.items ++ past-shown)
@@ -351,13 +401,14 @@ module _ (met : StreamsAreThoseMet) (once : StreamsAreNamedOnce) {frames : List 
   upto-met true e = sym (upto-past machine.found.items past-shown (h.stopped e))
   upto-met false e =
       ap upto_stop (sym (append-nil machine.found.items)
-      ∙ ap (λ l. machine.found.items ++ shown false (full_from (streams_of frames) (state_after h.met) l))
+      ∙ ap (λ l. machine.found.items
+      ++ shown machine.frames_shown (full_from (streams_of frames) (state_after h.met) l))
       (sym (h.goes_on e).0))
 
-  pub all-found : upto_stop machine.found.items ≡ shown false (pass frames)
+  pub all-found : upto_stop machine.found.items ≡ shown machine.frames_shown (pass frames)
   all-found =
       upto-met machine.has_stopped refl ∙ ap upto_stop (sym all-shown)
-      ∙ upto_stop-shown false (full_from (streams_of frames) pass_start frames)
+      ∙ upto_stop-shown machine.frames_shown (full_from (streams_of frames) pass_start frames)
 
   pub all-named : IsOrderly frames
       → AllByRecursion (IsNamedAlike frames machine.shown_at.items) (upto_stop machine.found.items)
@@ -365,3 +416,8 @@ module _ (met : StreamsAreThoseMet) (once : StreamsAreNamedOnce) {frames : List 
       each-upto (IsNamedAlike frames machine.shown_at.items) machine.found.items
       (each-weaker (IsFrameKept frames machine.shown_at.items) (IsNamedAlike frames machine.shown_at.items)
       (λ finding kept. kept.alike) machine.found.items (h.kept orderly).each)
+
+-- where credits are shown, all findings are
+pub all-findings : (found : List Finding) → shown true found ≡ found
+all-findings [] = refl
+all-findings (one ∷ found) = ap (λ (l : List Finding). one ∷ l) (all-findings found)

@@ -2,7 +2,8 @@
 use Rattle.std.proofs.Common.{◌≢◌, ◌%◌, ◌/◌, slice_set}
 use Rattle.std.proofs.Math.Nat.{div-mul-le_self, mod-lt}
 use Rattle.std.proofs.lemmas.Nat.{div-add-mod', div-mul-add, le-div}
-use Rattle.stream_credit.proofs.Words.{◌≡◌, ℕ, ◌<◌, ◌≤◌, ◌+◌, ◌-◌, ◌*◌, true, false, List, [], ◌∷◌, ◌++◌, Some, refl}
+use Rattle.stream_credit.proofs.Words.{◌≡◌, ℕ, ◌<◌, ◌≤◌, ◌+◌, ◌-◌, ◌*◌, Bool, true, false, List, [], ◌∷◌, ◌++◌, Some}
+use Rattle.stream_credit.proofs.Words.{refl}
 use Rattle.stream_credit.proofs.Words.{sym}
 use Rattle.stream_credit.proofs.Words.{ap, ◌∙◌, subst, arith, zero, suc, slice_get, length, cases_eq, inl, inr, Sides}
 use Rattle.stream_credit.proofs.Words.{Stream}
@@ -74,15 +75,17 @@ module _ {A : Type 0} where
 
 -- ---- shifts that are known
 
-pub narrower : (new old : QuietShifts) (entry : Stream)
-    → ((shift : Sides ℕ) → are_within new shift ≡ true → are_within old shift ≡ true) → IsEntryQuietFor old entry
-    → IsEntryQuietFor new entry
-narrower new old entry narrow h one other p q = h one other (narrow one p) (narrow other q)
+pub narrower : (frames_shown : Bool) (new old : QuietShifts) (entry : Stream)
+    → ((shift : Sides ℕ) → are_within new shift ≡ true → are_within old shift ≡ true)
+    → IsEntryQuietFor frames_shown old entry
+    → IsEntryQuietFor frames_shown new entry
+narrower frames_shown new old entry narrow h one other p q = h one other (narrow one p) (narrow other q)
 
-pub quiet-from : (level : Level) (rows : List Row) (at : ℕ) (shift next : Sides ℕ) → 0 < level.width
+pub quiet-from : (frames_shown : Bool) (level : Level) (rows : List Row) (at : ℕ) (shift next : Sides ℕ)
+    → 0 < level.width
     → at % level.width ≡ 0 → knows level (at / level.width) shift ≡ true → knows level (at / level.width) next ≡ true
-    → IsCovered level rows → AreRowsQuiet shift next at level.width rows
-quiet-from level rows at shift next some start p q covered i row above below there =
+    → IsCovered frames_shown level rows → AreRowsQuiet frames_shown shift next at level.width rows
+quiet-from frames_shown level rows at shift next some start p q covered i row above below there =
     let group = same-group at i level.width some start above below in
     covered some i row there shift next (subst (λ g. knows level g shift ≡ true) (sym group) p)
     (subst (λ g. knows level g next ≡ true) (sym group) q)
@@ -91,9 +94,9 @@ quiet-from level rows at shift next some start p q covered i row above below the
 pub forgotten : (old new : Level) (at : ℕ) → new.width ≡ old.width
     → ((shift : Sides ℕ) → knows new (at / old.width) shift ≡ false)
     → ((group : ℕ) (shift : Sides ℕ) → group ≢ at / old.width → knows new group shift ≡ knows old group shift)
-    → (before after : List Row) → IsCovered old before
-    → ((other : ℕ) → other ≢ at → slice_get after other ≡ slice_get before other) → IsCovered new after
-forgotten old new at width none others before after covered same some i row there one other p q =
+    → (frames_shown : Bool) (before after : List Row) → IsCovered frames_shown old before
+    → ((other : ℕ) → other ≢ at → slice_get after other ≡ slice_get before other) → IsCovered frames_shown new after
+forgotten old new at width none others frames_shown before after covered same some i row there one other p q =
     let some-old : 0 < old.width = rw (← width) some in
     elim (cases_eq (i / old.width) (at / old.width)) [
       | inl own ↦
@@ -109,8 +112,9 @@ forgotten old new at width none others before after covered same some i row ther
 pub learned : (old new : Level) (group : ℕ) (quiet : QuietShifts) → new.width ≡ old.width
     → ((shift : Sides ℕ) → knows new group shift ≡ are_within quiet shift)
     → ((other : ℕ) (shift : Sides ℕ) → other ≢ group → knows new other shift ≡ knows old other shift)
-    → (rows : List Row) → IsCovered old rows → IsGroupQuiet old.width group quiet rows → IsCovered new rows
-learned old new group quiet width here others rows covered of some i row there one other p q =
+    → (frames_shown : Bool) (rows : List Row) → IsCovered frames_shown old rows
+    → IsGroupQuiet frames_shown old.width group quiet rows → IsCovered frames_shown new rows
+learned old new group quiet width here others frames_shown rows covered of some i row there one other p q =
     let some-old : 0 < old.width = rw (← width) some in
     elim (cases_eq (i / old.width) group) [
       | inl own ↦

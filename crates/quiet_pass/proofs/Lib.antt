@@ -4,6 +4,7 @@ mod RowLists
 mod ConnectionLemmas
 mod StreamLemmas
 mod StreamFrames
+mod StillLemmas
 mod AlikeLemmas
 mod ChangeLemmas
 mod PassLemmas

@@ -16,7 +16,8 @@ use Rattle.audit_terms.specs.code.runs.Orderly.{IsInRange}
 use Rattle.quiet_pass.proofs.AlikeLemmas.{alike-parts, alike-shown, same-order}
 use Rattle.quiet_pass.proofs.ChangeLemmas.{none-both}
 use Rattle.quiet_pass.proofs.PassLemmas.{last-if, named-first, plain-brought, unopened}
-use Rattle.quiet_pass.proofs.StreamLemmas.{step-past}
+use Rattle.quiet_pass.proofs.StillLemmas.{unshown-change}
+use Rattle.quiet_pass.proofs.StreamLemmas.{step-past, unmoved-entry}
 use Rattle.quiet_pass.specs.code.Connection.{as_item}
 use Rattle.quiet_pass.specs.code.QuietPass.{AreNamed, BringsNothing, StandsFor}
 use Rattle.quiet_pass.specs.code.SaidFrames.{HaveOwn, IsConnectionKept, IsConnectionSaid, IsEntrySaid, IsKeptAfter}
@@ -27,7 +28,6 @@ use Rattle.audit_terms.specs.declared.items.Item.{Item}
 use Rattle.audit_terms.specs.declared.last_frames.LastFrame.{LastFrame}
 use Rattle.audit_terms.specs.declared.sides.Side.{Side}
 use Rattle.quiet_pass.specs.declared.passes.QuietPass.{QuietPass}
-use Rattle.stream_credit.proofs.QuietSteps.{none-shown}
 use Rattle.stream_credit.proofs.Words.{◌≡◌, ℕ, ◌<◌, ◌^◌, ◌==◌, Bool, true, false, List, [], ◌∷◌, ◌++◌, None, refl, sym}
 use Rattle.stream_credit.proofs.Words.{ap, ◌∙◌, subst, arith, append-nil, append_assoc, eq-eqb, ne_eqb, cases_Bool}
 use Rattle.stream_credit.proofs.Words.{cases_eq, inl, inr, nat_tests, if◌then◌else◌, ◌||◌, and-false}
@@ -48,16 +48,16 @@ abbrev pub said_of : PassState → Frame → ℕ → List Finding
 said_of state frame s = stream_said s state.in_force.initial (state.streams s) (step_of state.in_force frame s)
 
 -- of others than these streams a frame shows nothing
-pub record AreAllSaid (state : PassState) (frame : Frame) (some : List ℕ) : Type 0 where
+pub record AreAllSaid (frames_shown : Bool) (state : PassState) (frame : Frame) (some : List ℕ) : Type 0 where
   pub named : AreNamed some
   pub once : IsDistinct ◌==◌ some
   pub small : AllByRecursion (λ stream. stream < 2 ^ 31) some
   pub others : (other : ℕ) → 0 < other → list_any (λ one. one == other) some ≡ false
-      → shown false (said_of state frame other) ≡ []
+      → shown frames_shown (said_of state frame other) ≡ []
 
-module _ (state : PassState) (frame : Frame) where
+module _ (frames_shown : Bool) (state : PassState) (frame : Frame) where
   idle-unsaid : (s : ℕ) → state.streams s ≡ idle_stream → meets s frame ≡ false
-      → shown false (said_of state frame s) ≡ []
+      → shown frames_shown (said_of state frame s) ≡ []
   idle-unsaid s idle unmet = rw (idle, unmet) refl
 
   unnamed-unmet : (streams : List ℕ) → HaveOwn state frame streams → (s : ℕ) → 0 < s
@@ -67,14 +67,15 @@ module _ (state : PassState) (frame : Frame) where
     | inr unmet ↦ unmet
   ]
 
-  of-some : (streams some : List ℕ) → HaveOwn state frame streams → AreAllSaid state frame some
-      → in_order (shown false (streams_said streams state frame))
-      ≡ in_order (shown false (streams_said some state frame))
+  of-some : (streams some : List ℕ) → HaveOwn state frame streams → AreAllSaid frames_shown state frame some
+      → in_order (shown frames_shown (streams_said streams state frame))
+      ≡ in_order (shown frames_shown (streams_said some state frame))
   of-some streams some name all =
-      ap in_order (shown-flat_map false (said_of state frame) streams)
-      ∙ same-order (λ s. shown false (said_of state frame s)) streams some name.named all.named name.once all.once
+      ap in_order (shown-flat_map frames_shown (said_of state frame) streams)
+      ∙ same-order (λ s. shown frames_shown
+      (said_of state frame s)) streams some name.named all.named name.once all.once
       (λ s above none. idle-unsaid s (name.live s above none) (unnamed-unmet streams name s above none)) all.others
-      ∙ ap in_order (sym (shown-flat_map false (said_of state frame) some))
+      ∙ ap in_order (sym (shown-flat_map frames_shown (said_of state frame) some))
 
   at-some : (some : List ℕ) → AllByRecursion (λ stream. stream < 2 ^ 31) some
       → AreAt frame.number (streams_said some state frame)
@@ -153,26 +154,28 @@ module _ {frame : Frame} {old : QuietPass} {opens : Bool} {change : Option Chang
       ∙ ap (connection_after state.connection) item
 
   -- the code has the finding of an acknowledgement first, and streams in an order of its own
-  pub said-step : {new : QuietPass} (after : List Finding) {found : List Finding} (some : List ℕ)
-      → AreAllSaid state frame some → IsInRange frame → start ≡ settings_said state.in_force frame
-      → shown false after ≡ shown false before ++ shown false (streams_said some state frame)
-      → found ≡ shown false (in_order after)
-      → (list_any stops found ≡ false → StandsFor new (next state frame)) → IsSaidStep state frame found new
-  said-step {new} after {found} some all range settings is ordered goes_on =
+  pub said-step : (frames_shown : Bool) {new : QuietPass} (after : List Finding) {found : List Finding} (some : List ℕ)
+      → AreAllSaid frames_shown state frame some → IsInRange frame → start ≡ settings_said state.in_force frame
+      → shown frames_shown after ≡ shown frames_shown before ++ shown frames_shown (streams_said some state frame)
+      → found ≡ shown frames_shown (in_order after)
+      → (list_any stops found ≡ false → StandsFor new (next state frame))
+      → IsSaidStep frames_shown state frame found new
+  said-step frames_shown {new} after {found} some all range settings is ordered goes_on =
       let of-settings = settings_said state.in_force frame in
       let of-streams = streams_said some state frame in
       let front : before ≡ (of-settings ++ local) ++ of-connection =
       spoken-front ∙ ap (λ l. (l ++ local) ++ of-connection) settings in
-      let whole : found ≡ shown false (in_order (((of-settings ++ local) ++ of-connection) ++ of-streams)) =
+      let whole : found ≡ shown frames_shown (in_order (((of-settings ++ local) ++ of-connection) ++ of-streams)) =
       ordered
-      ∙ alike-shown after (((of-settings ++ local) ++ of-connection) ++ of-streams)
-      (is ∙ sym (shown-append false before of-streams) ∙ ap (λ l. shown false (l ++ of-streams)) front) in record {
+      ∙ alike-shown frames_shown after (((of-settings ++ local) ++ of-connection) ++ of-streams)
+      (is ∙ sym (shown-append frames_shown before of-streams) ∙ ap (λ l. shown frames_shown (l
+      ++ of-streams)) front) in record {
         shown = λ streams name.
-            alike-parts ((local ++ of-settings) ++ of-connection) ((of-settings ++ local) ++ of-connection)
+            alike-parts frames_shown ((local ++ of-settings) ++ of-connection) ((of-settings ++ local) ++ of-connection)
             (streams_said streams state frame) of-streams
             (in_order-alike (local ++ of-settings) (of-settings ++ local) of-connection of-connection
             (in_order-append_comm local of-settings) refl)
-            (of-some state frame streams some name all) ∙ sym whole;
+            (of-some frames_shown state frame streams some name all) ∙ sym whole;
         goes_on = goes_on;
         numbered = rw whole
             (each-filter _ _ _
@@ -182,7 +185,8 @@ module _ {frame : Frame} {old : QuietPass} {opens : Bool} {change : Option Chang
             (at-append frame.number _ of-connection
             (at-append frame.number of-settings local (at-settings frame range.stream state.in_force)
             (at-local frame range.stream (side_of frame.side state.previous)))
-            (at-connection state.connection (item_of state frame) range)) (at-some state frame some all.small)))));
+            (at-connection state.connection (item_of state frame) range))
+            (at-some frames_shown state frame some all.small)))));
       }
 
 -- ---- the streams that meet a frame
@@ -300,8 +304,8 @@ module _ (frame : Frame) (old : QuietPass) (state : PassState) (stands : StandsF
   past-frame : (s : ℕ) → meets s frame ≡ false → state.streams s ≡ after-of s
   past-frame s unmet = (step-past s state.in_force.initial frame (state.streams s) unmet).after
 
-  all-met : IsInRange frame → AreAllSaid state frame (met-by frame)
-  all-met range = record {
+  all-met : (frames_shown : Bool) → IsInRange frame → AreAllSaid frames_shown state frame (met-by frame)
+  all-met frames_shown range = record {
     named = each-append (λ (s : ℕ). 0 < s) (first_of frame.stream []) (first_of (promised_by frame) [])
         (named-first frame.stream [] tt) (named-first (promised_by frame) [] tt);
     once = once-first frame.stream (promised_by frame) (promised-other frame);
@@ -311,7 +315,10 @@ module _ (frame : Frame) (old : QuietPass) (state : PassState) (stands : StandsF
         let parts = none-both (λ one. one == other) (first_of frame.stream []) (first_of (promised_by frame) []) none in
         let unmet = unmet-other frame other (among-first frame.stream other above parts.0)
         (among-first (promised_by frame) other above parts.1) in
-        rw no-change (none-shown _ (step-past other state.in_force.initial frame (state.streams other) unmet).said);
+        rw (no-change, unmet)
+        (unshown-change frames_shown other state.in_force.initial state.in_force.initial frame.number None
+        (state.streams other) (state.streams other)
+        (unmoved-entry state.in_force.initial (state.streams other)) refl (λ _. refl) (λ _. refl));
   }
 
   -- what the code adds of a stream that meets the frame
@@ -377,7 +384,8 @@ module _ (frame : Frame) (old : QuietPass) (state : PassState) (stands : StandsF
         stands.streams)
 
 -- the whole of it
-pub said-plain : {frame : Frame} {old new : QuietPass} {opens : Bool} {connection : ConnectionState}
+pub said-plain :
+    (frames_shown : Bool) {frame : Frame} {old new : QuietPass} {opens : Bool} {connection : ConnectionState}
     {start before one after found : List Finding} {own-next promised-next : Stream} (own promised : Stream) (p : ℕ)
     → p ≡ promised_by frame → IsInRange frame → BringsNothing frame
     → (0 < frame.stream → (streams : ℕ → Stream) → AreKept streams old.streams → streams frame.stream ≡ own)
@@ -386,11 +394,12 @@ pub said-plain : {frame : Frame} {old new : QuietPass} {opens : Bool} {connectio
     → IsConnectionSaid old frame opens None start before connection → start ≡ []
     → IsEntrySaid frame.stream old.initial frame own own-next before one
     → IsEntrySaid p old.initial frame promised promised-next one after
-    → found ≡ shown false (in_order after)
+    → found ≡ shown frames_shown (in_order after)
     → (list_any stops found ≡ false → IsKeptAfter frame connection own-next promised-next old new)
-    → (state : PassState) → StandsFor old state → IsSaidStep state frame found new
-said-plain {frame} {old} {new} {opens} {connection} {start} {before} {one} {after} {found} {own-next} {promised-next}
-    own promised p named range plain own-stood stood opening spoken empty said-own other-said is kept state stands =
+    → (state : PassState) → StandsFor old state → IsSaidStep frames_shown state frame found new
+said-plain frames_shown {frame} {old} {new} {opens} {connection} {start} {before} {one} {after} {found} {own-next}
+    {promised-next} own promised p named range plain own-stood stood opening spoken empty said-own other-said is
+    kept state stands =
     let promised-stood =
     subst (λ (n : ℕ). 0 < n → (streams : ℕ → Stream) → AreKept streams old.streams → streams n ≡ promised) named
     stood in
@@ -411,9 +420,10 @@ said-plain {frame} {old} {new} {opens} {connection} {start} {before} {one} {afte
     (flat_map (said_of state frame) (first_of (promised_by frame) []))
     ∙ ap (λ l. before ++ l)
     (sym (flat_map-append (said_of state frame) (first_of frame.stream []) (first_of (promised_by frame) []))) in
-    said-step stands spoken item after (met-by frame) (all-met frame old state stands plain range) range
+    said-step stands spoken item frames_shown after (met-by frame)
+    (all-met frame old state stands plain frames_shown range) range
     (empty ∙ sym (no-settings frame old state stands plain))
-    (ap (shown false) whole ∙ shown-append false before (streams_said (met-by frame) state frame)) is
+    (ap (shown frames_shown) whole ∙ shown-append frames_shown before (streams_said (met-by frame) state frame)) is
     (λ on.
     let keeps = kept on in
     next-stands frame old state stands plain new keeps.rest (spoken-next stands spoken item)

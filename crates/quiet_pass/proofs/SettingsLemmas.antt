@@ -38,27 +38,30 @@ flat-same f g [] same = refl
 flat-same f g (s ∷ some) same = rw (same s, flat-same f g some same) refl
 
 -- where the windows stay as they are
-pub brought-quietly : {frame : Frame} {change : Option Change} (machine : QuietPass) (found : List Finding)
+pub brought-quietly : (frames_shown : Bool) {frame : Frame} {change : Option Change} (machine : QuietPass)
+    (found : List Finding)
     → machine.initial ≡ initial_after change machine.initial
-    → IsBroughtSaying frame change machine machine found found
-brought-quietly {frame} {change} machine found is = record {
+    → IsBroughtSaying frames_shown frame change machine machine found found
+brought-quietly frames_shown {frame} {change} machine found is = record {
   initial = is;
-  streams = quiet-said machine.initial frame.number change (λ streams. AreKept streams machine.streams)
+  streams = quiet-said frames_shown machine.initial frame.number change (λ streams. AreKept streams machine.streams)
       (kept-same machine.streams) found is;
   connection = refl;
   last = refl;
   pending = refl;
 }
 
-module _ {frame : Frame} {old mid moved new : QuietPass} {change : Option Change} {connection : ConnectionState}
-    {start before after found : List Finding} (range : IsInRange frame) (still : MovesNoStream frame)
+module _ {frames_shown : Bool} {frame : Frame} {old mid moved new : QuietPass} {change : Option Change}
+    {connection : ConnectionState} {start before after found : List Finding} (range : IsInRange frame)
+    (still : MovesNoStream frame)
     (brought : (now : InForce) → IsPending now old.pending → IsBrought now frame change mid.pending)
     (ml : mid.last ≡ old.last) (mi : mid.initial ≡ old.initial) (mc : mid.connection ≡ old.connection)
     (ms : mid.streams ≡ old.streams)
     (unmatched : start ≡ say (is_ack frame.body && is_none change)
     (finding_at UnmatchedAck frame.number frame.stream frame.side (pos 0)))
     (spoken : IsConnectionSaid mid frame false change start before connection)
-    (m : IsBroughtSaying frame change mid moved before after) (is : found ≡ shown false (in_order after))
+    (m : IsBroughtSaying frames_shown frame change mid moved before after) (is : found
+    ≡ shown frames_shown (in_order after))
     (kept : list_any stops found ≡ false
     → IsConnectionKept frame connection moved new × (new.streams ≡ moved.streams)) where
   module _ (state : PassState) (stands : StandsFor old state) where
@@ -79,12 +82,14 @@ module _ {frame : Frame} {old mid moved new : QuietPass} {change : Option Change
         (finding_at UnmatchedAck frame.number frame.stream frame.side (pos 0)))
         (ap (λ (c : Option Change). is_none c) (sym own.brings) ∙ none-taken frame (taken state.in_force frame))
 
-    told : IsChangeSaid state.in_force.initial (change_alone frame change) (λ streams. AreKept streams old.streams)
+    told : IsChangeSaid frames_shown state.in_force.initial (change_alone frame change)
+        (λ streams. AreKept streams old.streams)
         (λ streams. AreKept streams moved.streams) before after
     told =
-        subst (λ (i : Sides ℕ). IsChangeSaid i (change_alone frame change) (λ streams. AreKept streams old.streams)
+        subst (λ (i : Sides ℕ). IsChangeSaid frames_shown i (change_alone frame change)
+        (λ streams. AreKept streams old.streams)
         (λ streams. AreKept streams moved.streams) before after) (mi ∙ stands.initial)
-        (subst (λ (k : AllStreams). IsChangeSaid mid.initial (change_alone frame change)
+        (subst (λ (k : AllStreams). IsChangeSaid frames_shown mid.initial (change_alone frame change)
         (λ streams. AreKept streams k) (λ streams. AreKept streams moved.streams) before after) ms m.streams)
 
     said-is : (s : ℕ) → said_of state frame s
@@ -101,26 +106,27 @@ module _ {frame : Frame} {old mid moved new : QuietPass} {change : Option Change
         (record { number = frame.number; frame = (step_of state.in_force frame s).frame; change = c })) own.brings
         ∙ after-still frame still s state.in_force.initial (state.streams s) change
 
-    all-said : AreAllSaid state frame told.some
+    all-said : AreAllSaid frames_shown state frame told.some
     all-said = record {
       named = (told.names state.streams stands.streams).named;
       once = (told.names state.streams stands.streams).once;
       small = (told.names state.streams stands.streams).small;
       others = λ other above none.
-          ap (shown false) (said-is other) ∙ told.others state.streams stands.streams other above none;
+          ap (shown frames_shown) (said-is other) ∙ told.others state.streams stands.streams other above none;
     }
 
-    shown-is : shown false after ≡ shown false before ++ shown false (streams_said told.some state frame)
+    shown-is : shown frames_shown after
+        ≡ shown frames_shown before ++ shown frames_shown (streams_said told.some state frame)
     shown-is =
         told.said state.streams stands.streams
-        ∙ ap (λ l. shown false before ++ shown false l)
+        ∙ ap (λ l. shown frames_shown before ++ shown frames_shown l)
         (sym (flat-same (said_of state frame)
         (λ s. stream_said s state.in_force.initial (state.streams s) (change_alone frame change)) told.some said-is))
 
-    pub said-on-settings : IsSaidStep state frame found new
+    pub said-on-settings : IsSaidStep frames_shown state frame found new
     said-on-settings =
         let heard = spoken-of ml mc spoken in
-        said-step stands heard item after told.some all-said range settings shown-is is
+        said-step stands heard item frames_shown after told.some all-said range settings shown-is is
         (λ on.
         let keeps = (kept on).0 in
         let same = (kept on).1 in record {

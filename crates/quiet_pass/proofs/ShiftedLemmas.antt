@@ -1,9 +1,9 @@
 -- Rows that hold credits less a shift, at a change of the initial windows in force.
 use Rattle.std.proofs.Common.{◌%◌, get_or, Global, Vec}
 use Rattle.audit_terms.proofs.ShownFindings.{shown-append}
-use Rattle.stream_credit.proofs.QuietSteps.{change_alone, none-shown}
-use Rattle.stream_credit.proofs.Words.{◌≡◌, ℕ, ℤ, ◌+◌, ◌<◌, ◌≤◌, false, List, [], ◌∷◌, ◌++◌, None, Option, Some, refl}
-use Rattle.stream_credit.proofs.Words.{sym, ap}
+use Rattle.stream_credit.proofs.QuietSteps.{change_alone}
+use Rattle.stream_credit.proofs.Words.{◌≡◌, ℕ, ℤ, ◌+◌, ◌<◌, ◌≤◌, List, [], ◌∷◌, ◌++◌, None, Option, Some, refl}
+use Rattle.stream_credit.proofs.Words.{sym, ap, Bool}
 use Rattle.stream_credit.proofs.Words.{◌∙◌, subst, arith, ints, append_assoc, drop, zero, suc, slice_get}
 use Rattle.stream_credit.proofs.Words.{Client, Finding, Server, Side, Sides, Step, Stream, credit_after_change}
 use Rattle.stream_credit.proofs.Words.{flat_map, initial_after, new_initial, option_map, shown, side_of}
@@ -12,7 +12,8 @@ use Rattle.stream_credit.proofs.Words.{cases_Bool, cases_eq, inl, inr, length, �
 use Rattle.stream_credit.proofs.Words.{if◌then◌else◌}
 use Rattle.quiet_pass.proofs.ChangeLemmas.{said-by}
 use Rattle.quiet_pass.proofs.RowLists.{each-row, parity-zip}
-use Rattle.quiet_pass.proofs.StreamLemmas.{rows-of, step-alone}
+use Rattle.quiet_pass.proofs.StillLemmas.{unshown-change}
+use Rattle.quiet_pass.proofs.StreamLemmas.{rows-of}
 use Rattle.quiet_pass.specs.code.HeldStreams.{held, IsEntryMoved}
 use Rattle.quiet_pass.specs.code.Rows.{AreLowered, AreRisingFrom, IsLowered, entry_in}
 use Rattle.quiet_pass.specs.code.Rows.{shifted_said}
@@ -23,7 +24,7 @@ use Rattle.quiet_pass.specs.declared.kept_streams.Shifted.{Shifted}
 use Rattle.quiet_pass.specs.declared.kept_streams.Streams.{Streams}
 use Rattle.quiet_pass.specs.declared.opened_rows.Row.{Row}
 
-module _ (initial : Sides ℕ) (step : Step) (alone : step.frame ≡ None) (shift next : Sides ℕ)
+module _ (frames_shown : Bool) (initial : Sides ℕ) (step : Step) (alone : step.frame ≡ None) (shift next : Sides ℕ)
     (moved : IsShiftMoved initial (initial_after step.change initial) shift next) where
   abbrev after : Sides ℕ
   after = initial_after step.change initial
@@ -35,28 +36,27 @@ module _ (initial : Sides ℕ) (step : Step) (alone : step.frame ≡ None) (shif
   window-moved s n i a None e = refl
   window-moved s n i a (Some credit) e = ap Some (omega (arith, ints, e))
 
-  entry-moved : (entry : Stream) → IsEntryQuiet shift next entry
+  entry-moved : (entry : Stream) → IsEntryQuiet frames_shown shift next entry
       → IsEntryMoved initial after (raised shift entry) (raised next entry)
   entry-moved entry quiet = record {
     life = refl;
     client = window-moved shift.client next.client initial.client after.client entry.window.client moved.client;
     server = window-moved shift.server next.server initial.server after.server entry.window.server moved.server;
-    client_quiet = quiet.client;
-    server_quiet = quiet.server;
+    client_quiet = quiet.client.quiet;
+    server_quiet = quiet.server.quiet;
   }
 
   as-alone : step ≡ change_alone step.number step.change
   as-alone = rw (← alone) refl
 
   -- nothing is shown of a row that both shifts are known for
-  pub row-unshown : (row : Row) → IsEntryQuiet shift next (held row.standings)
-      → shown false (shifted_said shift initial step row) ≡ []
+  pub row-unshown : (row : Row) → IsEntryQuiet frames_shown shift next (held row.standings)
+      → shown frames_shown (shifted_said shift initial step row) ≡ []
   row-unshown row quiet =
       let entry = held row.standings in
-      let one = step-alone row.stream initial after step.number step.change (raised shift entry) (raised next entry)
-      (entry-moved entry quiet) refl in
-      ap (λ (step : Step). shown false (stream_said row.stream initial (raised shift entry) step)) as-alone
-      ∙ none-shown _ one.said
+      ap (λ (step : Step). shown frames_shown (stream_said row.stream initial (raised shift entry) step)) as-alone
+      ∙ unshown-change frames_shown row.stream initial after step.number step.change (raised shift entry)
+      (raised next entry) (entry-moved entry quiet) refl quiet.client.still quiet.server.still
 
   after-moved : (d : Side) (stream s n : ℕ) (window : Option ℤ)
       → n + side_of d initial ≡ s + new_initial step.change d (side_of d initial)
@@ -80,16 +80,16 @@ module _ (initial : Sides ℕ) (step : Step) (alone : step.frame ≡ None) (shif
 
   skip : (rows : List Row) (from to : ℕ) → from ≤ to
       → ((at : ℕ) (row : Row) → from ≤ at → at < to → slice_get rows at ≡ Some row
-      → shown false (shifted_said shift initial step row) ≡ [])
-      → shown false (said-in (drop from rows)) ≡ shown false (said-in (drop to rows))
+      → shown frames_shown (shifted_said shift initial step row) ≡ [])
+      → shown frames_shown (said-in (drop from rows)) ≡ shown frames_shown (said-in (drop to rows))
   skip [] zero zero le quiet = refl
   skip [] zero (suc to) le quiet = refl
   skip [] (suc from) zero le quiet = refl
   skip [] (suc from) (suc to) le quiet = refl
   skip (row ∷ rows) zero zero le quiet = refl
   skip (row ∷ rows) zero (suc to) le quiet =
-      shown-append false (shifted_said shift initial step row) (said-in rows)
-      ∙ ap (λ l. l ++ shown false (said-in rows)) (quiet zero row (omega arith) (omega arith) refl)
+      shown-append frames_shown (shifted_said shift initial step row) (said-in rows)
+      ∙ ap (λ l. l ++ shown frames_shown (said-in rows)) (quiet zero row (omega arith) (omega arith) refl)
       ∙ skip rows zero to (omega arith)
       (λ at one above below there. quiet (suc at) one (omega arith) (omega (arith, below)) there)
   skip (row ∷ rows) (suc from) zero le quiet = absurd (omega (arith, le))
@@ -98,36 +98,38 @@ module _ (initial : Sides ℕ) (step : Step) (alone : step.frame ≡ None) (shif
       (λ at one above below there. quiet (suc at) one (omega (arith, above)) (omega (arith, below)) there)
 
   pub skipped : (rows : List Row) (from to count : ℕ) → from ≤ to → to ≤ from + count
-      → AreRowsQuiet shift next from count rows
-      → shown false (said-in (drop from rows)) ≡ shown false (said-in (drop to rows))
+      → AreRowsQuiet frames_shown shift next from count rows
+      → shown frames_shown (said-in (drop from rows)) ≡ shown frames_shown (said-in (drop to rows))
   skipped rows from to count le fits quiet =
       skip rows from to le (λ at row above below there.
       row-unshown row (quiet at row above (omega (arith, below, fits)) there))
 
   pub row-said : (rows : List Row) (at : ℕ) (row : Row) → slice_get rows at ≡ Some row
-      → shown false (said-in (drop at rows))
-      ≡ shown false (shifted_said shift initial step row) ++ shown false (said-in (drop (at + 1) rows))
+      → shown frames_shown (said-in (drop at rows))
+      ≡ shown frames_shown (shifted_said shift initial step row) ++ shown frames_shown (said-in (drop (at + 1) rows))
   row-said [] at row there = cc
   row-said (one ∷ rows) zero row there =
-      subst (λ (row : Row). shown false (said-in (one ∷ rows))
-      ≡ shown false (shifted_said shift initial step row) ++ shown false (said-in rows)) (same_Some one row there)
-      (shown-append false (shifted_said shift initial step one) (said-in rows))
+      subst (λ (row : Row). shown frames_shown (said-in (one ∷ rows))
+      ≡ shown frames_shown (shifted_said shift initial step row)
+      ++ shown frames_shown (said-in rows)) (same_Some one row there)
+      (shown-append frames_shown (shifted_said shift initial step one) (said-in rows))
   row-said (one ∷ rows) (suc at) row there =
       let later : suc at + 1 ≡ suc (at + 1) = omega arith in
-      subst (λ n. shown false (said-in (drop at rows))
-      ≡ shown false (shifted_said shift initial step row) ++ shown false (said-in (drop n (one ∷ rows)))) (sym later)
+      subst (λ n. shown frames_shown (said-in (drop at rows))
+      ≡ shown frames_shown (shifted_said shift initial step row)
+      ++ shown frames_shown (said-in (drop n (one ∷ rows)))) (sym later)
       (row-said rows at row there)
 
   -- one row more of those that were gone through
   pub said-row : (rows : List Row) (at : ℕ) (row : Row) (before found : List Finding) → slice_get rows at ≡ Some row
-      → shown false found ≡ shown false before ++ shown false (shifted_said shift initial step row)
-      → shown false found ++ shown false (said-in (drop (at + 1) rows))
-      ≡ shown false before ++ shown false (said-in (drop at rows))
+      → shown frames_shown found ≡ shown frames_shown before ++ shown frames_shown (shifted_said shift initial step row)
+      → shown frames_shown found ++ shown frames_shown (said-in (drop (at + 1) rows))
+      ≡ shown frames_shown before ++ shown frames_shown (said-in (drop at rows))
   said-row rows at row before found there said =
-      let own = shown false (shifted_said shift initial step row) in
-      let rest = shown false (said-in (drop (at + 1) rows)) in
-      ap (λ (l : List Finding). l ++ rest) said ∙ append_assoc (shown false before) own rest
-      ∙ ap (λ (l : List Finding). shown false before ++ l) (sym (row-said rows at row there))
+      let own = shown frames_shown (shifted_said shift initial step row) in
+      let rest = shown frames_shown (said-in (drop (at + 1) rows)) in
+      ap (λ (l : List Finding). l ++ rest) said ∙ append_assoc (shown frames_shown before) own rest
+      ∙ ap (λ (l : List Finding). shown frames_shown before ++ l) (sym (row-said rows at row there))
 
 -- ---- rows that begin to hold credits less a shift
 
@@ -164,8 +166,10 @@ base-even kept s p = rw p refl
 
 pub begins-shifted : (shifted : Shifted) (old new : Streams) → old.shifted ≡ None → new.shifted ≡ Some shifted
     → AreLowered shifted.shift old.opened.items new.opened.items
-    → AreLowered shifted.shift old.promised.items new.promised.items → AreCovered shifted.opened new.opened.items
-    → AreCovered shifted.promised new.promised.items → (streams : ℕ → Stream) → AreStreams streams old
+    → AreLowered shifted.shift old.promised.items new.promised.items
+    → AreCovered shifted.frames_shown shifted.opened new.opened.items
+    → AreCovered shifted.frames_shown shifted.promised new.promised.items → (streams : ℕ → Stream)
+    → AreStreams streams old
     → AreStreams streams new
 begins-shifted shifted old new none some opened promised one two streams all =
     let h = rows-of streams old none all in
@@ -199,30 +203,33 @@ begins-shifted shifted old new none some opened promised one two streams all =
 
 -- ---- what a change shows of them
 
-pub shifted-change : (initial : Sides ℕ) (step : Step) → step.frame ≡ None → (one two : Shifted)
+pub shifted-change : (frames_shown : Bool) (initial : Sides ℕ) (step : Step) → step.frame ≡ None → (one two : Shifted)
+    → one.frames_shown ≡ frames_shown → two.frames_shown ≡ frames_shown
     → IsShiftMoved initial (initial_after step.change initial) one.shift two.shift → (old new : Streams)
     → old.shifted ≡ Some one → new.shifted ≡ Some two → new.opened ≡ old.opened → new.promised ≡ old.promised
     → (before mid after : List Finding)
-    → (AreCovered one.opened old.opened.items → shown false mid
-    ≡ shown false before ++ shown false (flat_map (shifted_said one.shift initial step) old.opened.items))
-    → (AreCovered one.promised old.promised.items → shown false after
-    ≡ shown false mid ++ shown false (flat_map (shifted_said one.shift initial step) old.promised.items))
-    → (AreCovered one.opened old.opened.items → AreCovered two.opened old.opened.items)
-    → (AreCovered one.promised old.promised.items → AreCovered two.promised old.promised.items)
-    → IsChangeSaid initial step (λ streams. AreStreams streams old) (λ streams. AreStreams streams new) before after
-shifted-change initial step alone one two moved old new was now opened promised before mid after odd even keep-odd
-    keep-even =
+    → (AreCovered frames_shown one.opened old.opened.items → shown frames_shown mid
+    ≡ shown frames_shown before ++ shown frames_shown (flat_map (shifted_said one.shift initial step) old.opened.items))
+    → (AreCovered frames_shown one.promised old.promised.items → shown frames_shown after
+    ≡ shown frames_shown mid ++ shown frames_shown (flat_map (shifted_said one.shift initial step) old.promised.items))
+    → (AreCovered frames_shown one.opened old.opened.items → AreCovered frames_shown two.opened old.opened.items)
+    → (AreCovered frames_shown one.promised old.promised.items
+    → AreCovered frames_shown two.promised old.promised.items)
+    → IsChangeSaid frames_shown initial step (λ streams. AreStreams streams old)
+    (λ streams. AreStreams streams new) before after
+shifted-change frames_shown initial step alone one two first second moved old new was now opened promised before mid
+    after odd even keep-odd keep-even =
     let from : shift_of old ≡ Some one.shift = ap (option_map (λ (shifted : Shifted). shifted.shift)) was in
     let to : shift_of new ≡ Some two.shift = ap (option_map (λ (shifted : Shifted). shifted.shift)) now in
-    said-by initial step alone (raised one.shift) refl (λ next. AreStreams next new)
+    said-by frames_shown initial step alone (raised one.shift) refl {old = old} (λ next. AreStreams next new)
     (λ streams h.
     let groups = h.grouped one was in record {
       base = h.base;
       rows = h.rows;
       is = λ s above. h.raised s above ∙ ap (λ (by : Option (Sides ℕ)). raised_in by (h.base s)) from;
       mid = mid;
-      one = odd groups.opened;
-      two = even groups.promised;
+      one = odd (rw first at groups.opened);
+      two = even (rw first at groups.promised);
     })
     (λ streams h.
     let groups = h.grouped one was in record {
@@ -238,20 +245,22 @@ shifted-change initial step alone one two moved old new was now opened promised 
       raised = λ s above.
           ap (λ (entry : Stream). stream_after s initial entry step)
           (h.raised s above ∙ ap (λ (by : Option (Sides ℕ)). raised_in by (h.base s)) from)
-          ∙ stream-raised initial step alone one.shift two.shift moved s (h.base s)
+          ∙ stream-raised frames_shown initial step alone one.shift two.shift moved s (h.base s)
           ∙ ap (λ (by : Option (Sides ℕ)). raised_in by (h.base s)) (sym to);
       grouped = λ other e.
           subst (λ (shifted : Shifted). AreGroups shifted new) (same_Some two other (sym now ∙ e))
           (record {
-            opened = rw opened (keep-odd groups.opened);
-            promised = rw promised (keep-even groups.promised);
+            opened = rw (second, opened) (keep-odd (rw first at groups.opened));
+            promised = rw (second, promised) (keep-even (rw first at groups.promised));
           });
     })
 
 -- what was said of rows that hold the same streams as others was said of those
-pub said-from : {initial : Sides ℕ} {step : Step} {Was Mid Kept : (ℕ → Stream) → Type 0} {before after : List Finding}
-    → ((streams : ℕ → Stream) → Was streams → Mid streams) → IsChangeSaid initial step Mid Kept before after
-    → IsChangeSaid initial step Was Kept before after
+pub said-from : {frames_shown : Bool} {initial : Sides ℕ} {step : Step} {Was Mid Kept : (ℕ → Stream)
+    → Type 0} {before after : List Finding}
+    → ((streams : ℕ → Stream) → Was streams → Mid streams)
+    → IsChangeSaid frames_shown initial step Mid Kept before after
+    → IsChangeSaid frames_shown initial step Was Kept before after
 said-from same said = record {
   some = said.some;
   names = λ streams h. said.names streams (same streams h);

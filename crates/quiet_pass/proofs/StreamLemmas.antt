@@ -2,10 +2,10 @@
 use Rattle.stream_credit.proofs.Words.{◌≡◌, ℕ, ℤ, ◌<◌, true, List, Some, None, refl, sym, ◌∙◌, inl, inr, ints}
 use Rattle.stream_credit.proofs.Words.{◌==◌, Bool, false, ap, subst, arith, ne_eqb, Sides, Frame, Change, Stream}
 use Rattle.stream_credit.proofs.Words.{credit_after_change}
-use Rattle.stream_credit.proofs.Words.{int_lt, option_map, and-false, same_Some, StreamLife, initial_after}
+use Rattle.stream_credit.proofs.Words.{option_map, and-false, StreamLife, initial_after}
 use Rattle.stream_credit.proofs.Words.{idle_stream, if◌then◌else◌, stream_after}
 use Rattle.stream_credit.proofs.Words.{[], Option, or-false, cases_eq}
-use Rattle.stream_credit.proofs.Words.{eq-eqb, eqb-true, cases_Bool, IsQuietMove, and-true, ◌^◌, Body}
+use Rattle.stream_credit.proofs.Words.{eq-eqb, eqb-true, cases_Bool, and-true, ◌^◌, Body}
 use Rattle.audit_terms.specs.declared.frames.Body.TheVariants.{Headers}
 use Rattle.std.proofs.Common.{◌%◌, ◌≢◌, ap₂}
 use Rattle.audit_terms.specs.Frame.{is_headers, is_promise, is_server_promise, promised_in, meets}
@@ -18,7 +18,7 @@ use Rattle.quiet_pass.specs.code.Rows.{entry_in, AreOfParity, AreRising, IsMetOn
 use Rattle.quiet_pass.specs.code.Shifts.{raised_in}
 use Rattle.quiet_pass.specs.code.Streams.{AreRowsOf, AreStreams, as_step, IsStep, AreMet, AreMetOn}
 use Rattle.quiet_pass.specs.code.Streams.{ArePut, shift_of}
-use Rattle.quiet_pass.proofs.ShiftLemmas.{both-true, none-some}
+use Rattle.quiet_pass.proofs.ShiftLemmas.{both-true, none-some, window-quiet}
 use Rattle.quiet_pass.specs.code.HeldStreams.{IsEntryMoved}
 
 -- ---- a stream that the frame does not meet
@@ -46,12 +46,6 @@ step-moved s initial after frame change entry next m is unmet =
 window-stays : (i : ℕ) (window : Option ℤ) → window ≡ option_map (credit_after_change i i) window
 window-stays i None = refl
 window-stays i (Some credit) = ap Some (omega (arith, ints))
-
-window-quiet : (window : Option ℤ) → IsQuietMove window window
-window-quiet window credit e next f =
-    let same = same_Some credit next (sym e ∙ f) in
-    let level : int_lt credit credit ≡ false = grind (arith, ints) in
-    rw (← same) (refl, rw level refl)
 
 pub unmoved-entry : (initial : Sides ℕ) (entry : Stream) → IsEntryMoved initial initial entry entry
 unmoved-entry initial entry = record {

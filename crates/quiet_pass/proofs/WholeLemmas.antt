@@ -300,19 +300,20 @@ module _ (initial : Sides ℕ) (step : Step) (alone : step.frame ≡ None) where
   idle-unsaid : (s : ℕ) → stream_said s initial idle_stream step ≡ []
   idle-unsaid s = rw alone refl
 
-  pub whole-said : (list : List WholeStream) (before : List Finding)
-      → IsChangeSaid initial step (λ streams. AreListed streams list)
+  pub whole-said : (frames_shown : Bool) (list : List WholeStream) (before : List Finding)
+      → IsChangeSaid frames_shown initial step (λ streams. AreListed streams list)
       (λ streams. AreListed streams (map (whole_after initial step) list)) before
       (before ++ flat_map (whole_said initial step) list)
-  whole-said list before = record {
+  whole-said frames_shown list before = record {
     some = names_among list;
     names = λ streams h. h.names;
     said = λ streams h.
-        shown-append false before (flat_map (whole_said initial step) list)
-        ∙ ap (λ l. shown false before ++ shown false l) (said-names streams list (each-is streams list h));
+        shown-append frames_shown before (flat_map (whole_said initial step) list)
+        ∙ ap (λ l. shown frames_shown before
+        ++ shown frames_shown l) (said-names streams list (each-is streams list h));
     others = λ streams h other above none.
-        ap (λ (entry : Stream). shown false (stream_said other initial entry step))
-        (h.all other above ∙ among-missing list other none) ∙ ap (shown false) (idle-unsaid other);
+        ap (λ (entry : Stream). shown frames_shown (stream_said other initial entry step))
+        (h.all other above ∙ among-missing list other none) ∙ ap (shown frames_shown) (idle-unsaid other);
     met = λ streams h. record {
       all = λ s above.
           ap (λ (entry : Stream). stream_after s initial entry step) (h.all s above) ∙ sym (among-after list s);

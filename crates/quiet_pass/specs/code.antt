@@ -3,6 +3,7 @@ pub mod Shifts
 pub mod Rows
 pub mod Connection
 pub mod Streams
+pub mod ShiftSteps
 pub mod WholeStreams
 pub mod AllStreams
 pub mod QuietPass

@@ -96,6 +96,9 @@ impl AllStreams {
         ensures client { WindowHasRoom (2 ^ 60) result.window.client }
         ensures server { WindowHasRoom (2 ^ 60) result.window.server }
     {
+        if stream == 0 {
+            return Stream::idle();
+        }
         match self {
             AllStreams::Rows(rows) => rows.entry_of(stream),
             AllStreams::Whole(whole) => whole.entry_of(stream),
@@ -112,6 +115,9 @@ impl AllStreams {
         requires { stream < 2 ^ 31 }
         ensures { OnOk result (IsKeptNow stream entry.now self.old self.new) }
     {
+        if stream == 0 {
+            return Ok(());
+        }
         match self {
             AllStreams::Rows(rows) => {
                 if rows.put(stream, entry)? {
@@ -141,6 +147,7 @@ impl AllStreams {
     pub(crate) fn say_change(
         &mut self,
         alloc: Global,
+        frames_shown: bool,
         found: &mut Vec<Finding>,
         initial: &Sides<u32>,
         step: &Step,
@@ -148,12 +155,12 @@ impl AllStreams {
         requires alone { step.now.frame ≡ None }
         requires numbered { step.now.number ≤ 2 ^ 28 - 2 }
         requires room { HoldRoom self.old }
-        ensures { OnOk result (IsChangeSaid initial.now step.now (λ streams. AreKept streams self.old)
+        ensures { OnOk result (IsChangeSaid frames_shown initial.now step.now (λ streams. AreKept streams self.old)
             (λ streams. AreKept streams self.new) found.old.items found.new.items) }
     {
         match self {
             AllStreams::Rows(rows) => {
-                if rows.say_change(alloc, found, initial, step)? {
+                if rows.say_change(alloc, frames_shown, found, initial, step)? {
                     return Ok(());
                 }
                 let mut whole = rows.whole(alloc)?;
@@ -179,13 +186,18 @@ impl AllStreams {
     }
 
     /// Brings rows to hold credits less the initial windows in force, so that changes move none.
-    pub(crate) fn shift_by(&mut self, alloc: Global, initial: &Sides<u32>) -> Result<(), AllocError>
+    pub(crate) fn shift_by(
+        &mut self,
+        alloc: Global,
+        frames_shown: bool,
+        initial: &Sides<u32>,
+    ) -> Result<(), AllocError>
         requires { moves_none self.old ≡ false }
         ensures { OnOk result ((streams : ℕ → StreamTerm) → AreKept streams self.old → AreKept streams self.new) }
     {
         match self {
             AllStreams::Rows(rows) => {
-                rows.shift_by(alloc, initial)?;
+                rows.shift_by(alloc, frames_shown, initial)?;
                 Ok(())
             }
             AllStreams::Whole(_) => Ok(()),

@@ -7,19 +7,20 @@ ghost use Rattle.tcp_streams.specs.code.SentFlows.{HaveFlows};
 ghost use Rattle.tcp_streams.specs.code.Side.{Sent};
 
 use crate::found_visitor::{FoundCut, FoundVisitor};
+use crate::showing::Showing;
 use h2_frames::ConnectionFrames;
 use packet_heads::Segment;
 use std::alloc::{AllocError, Global};
 use tcp_streams::{ConnectionVisitor, FlowEnd};
 
-/// A connection while its segments come, whose frames are met as soon as their bytes are there, where credits are not
-/// shown.
+/// A connection while its segments come, whose frames are met as soon as their bytes are there. `S` says whether
+/// credits are shown.
 ///
 /// It keeps what [`ConnectionFrames`] and the machine keep: of bytes those alone that are behind a hole, that wait for
 /// the server's number, or that begin a frame.
 #[derive(Drop)]
-pub struct ConnectionFindings {
-    frames: ConnectionFrames<FoundVisitor>,
+pub struct ConnectionFindings<S> {
+    frames: ConnectionFrames<FoundVisitor<S>>,
 }
 
 /// What all segments of a connection tell.
@@ -30,15 +31,15 @@ pub struct FoundFlows {
     pub server: FlowEnd,
 }
 
-impl ConnectionVisitor for ConnectionFindings {
+impl<S: Showing> ConnectionVisitor for ConnectionFindings<S> {
     ghost use Rattle.std.specs.Prelude.{[], IfOk, IsOk};
     ghost use Rattle.quiet_pass.specs.code.FoundFlows.{HasMetSent};
 
-    ghost after = { HasMetSent };
+    ghost after = { HasMetSent S.frames_shown };
 
     /// Takes no memory, so none is wanting.
-    fn begin(alloc: Global, opening: &Segment) -> Result<ConnectionFindings, AllocError>
-        ensures begun { IfOk result (HasMetSent opening.now [] 0) }
+    fn begin(alloc: Global, opening: &Segment) -> Result<ConnectionFindings<S>, AllocError>
+        ensures begun { IfOk result (HasMetSent S.frames_shown opening.now [] 0) }
         ensures answered { IsOk result }
     {
         Ok(ConnectionFindings {
@@ -52,17 +53,20 @@ impl ConnectionVisitor for ConnectionFindings {
     }
 }
 
-impl ConnectionFindings {
+impl<S: Showing> ConnectionFindings<S> {
     /// What all its segments tell: which kind of cut the two flows have, where they end, and what is shown.
     ///
     /// The flows, which there are (`HaveFlows`), are those that `tcp_streams::assemble` gives of a capture in which the
     /// payloads stand (`tcp_streams::laws::flows_are_those_sent`): so it answers what [`crate::found_in`] does of all
     /// frames of these, without a list of them.
     pub fn finish(self, alloc: Global) -> Result<FoundFlows, AllocError>
-        requires { (opening : Opening) × (sent : List Sent) × (last : ℕ) × HasMetSent opening sent last self }
-        ensures found { (opening : Opening) (sent : List Sent) (last : ℕ) → HasMetSent opening sent last self
-            → IfOk result (IsFoundOfSent opening sent) }
-        ensures flows { (opening : Opening) (sent : List Sent) (last : ℕ) → HasMetSent opening sent last self
+        requires { (opening : Opening) × (sent : List Sent) × (last : ℕ)
+            × HasMetSent S.frames_shown opening sent last self }
+        ensures found { (opening : Opening) (sent : List Sent) (last : ℕ)
+            → HasMetSent S.frames_shown opening sent last self
+            → IfOk result (IsFoundOfSent S.frames_shown opening sent) }
+        ensures flows { (opening : Opening) (sent : List Sent) (last : ℕ)
+            → HasMetSent S.frames_shown opening sent last self
             → OnOk result (HaveFlows opening sent) }
     {
         let handed = self.frames.finish(alloc)?;

@@ -1,6 +1,8 @@
 //! Connections of which little is shown: what is shown is said as frames are met, and no list of all frames is made.
 
-ghost use Rattle.std.specs.Prelude.{IfOk, IfSome, IsTrue, List};
+ghost use Rattle.std.specs.Prelude.{◌≡◌, ◌≢◌, ◌<◌, ◌≤◌, [], IfNone, IfOk, IfSome, IsTrue, List, length};
+ghost use Rattle.audit_terms.specs.Finding.{shown};
+ghost use Rattle.audit_terms.specs.Pass.{pass};
 ghost use Rattle.audit_terms.specs.code.runs.Orderly.{IsOrderly};
 ghost use Rattle.audit_terms.specs.declared.frames.Frame.{Frame as FrameTerm};
 ghost use Rattle.h2_frames.specs.Cut.{IsHttp2};
@@ -9,11 +11,11 @@ ghost use Rattle.quiet_pass.specs.code.FoundPass.{IsFoundAfter};
 ghost use Rattle.tcp_streams.specs.declared.flows.Flow.{Flow};
 
 use crate::found_passes::FoundPass;
-use audit_core::laws::streams_are_those_met;
+use audit_terms::laws::streams_are_those_met;
 use audit_terms::{Finding, Frame, Sides, cut_at_stop};
 use std::alloc::{AllocError, Global};
 
-/// What is shown of a connection of HTTP/2, where credits are not.
+/// What is shown of a connection of HTTP/2.
 #[derive(Drop)]
 pub struct FoundConnection {
     /// How many frames the two sides sent together.
@@ -26,36 +28,61 @@ pub struct FoundConnection {
     pub shown_at: Vec<Frame>,
 }
 
-/// What these frames of a connection show, where credits are not shown, if that is nothing or they are no more than so
-/// many.
+/// A front has one in so many frames of its connection. Where it shows something and no end, only so small a part is
+/// met for nothing.
 ///
-/// They are met by a machine that keeps those alone at which something is shown. There is no answer where there are
-/// more of them, and one shows something.
+/// Measured, without fronts an early error took several workers 1.25 times as long, and where each frame after it
+/// changes all windows, a thousand times.
+const FRAMES_PER_FRONT_FRAME: usize = 32;
+
+/// What these frames of a connection show, where credits are shown or are not, if that is nothing, if they are no more
+/// than so many, or if the audit ends within the first thirty-second of them (RFC 9113, 5.4.1).
+///
+/// They are met by a machine that keeps those alone at which something is shown. Where they are more than so many, and
+/// something is shown before the last of them but no end in that front, there is no answer.
 pub fn found_in(
     alloc: Global,
+    frames_shown: bool,
     most_frames: usize,
     frames: &[Frame],
     tails: Sides<u32>,
 ) -> Result<Option<FoundConnection>, AllocError>
     requires { IsOrderly frames.now }
-    ensures { (client server : Flow) → IsTrue server.started → IsHttp2 client server frames.now tails
-        → IfOk result (λ found. IfSome found (IsFoundOf client server)) }
+    ensures found { (client server : Flow) → IsTrue server.started → IsHttp2 client server frames.now tails
+        → IfOk result (λ found. IfSome found (IsFoundOf frames_shown client server)) }
+    ensures none { IfOk result (λ found. IfNone found
+        ((most_frames < length frames.now) × (shown frames_shown (pass frames.now) ≢ []))) }
 {
-    let are_many = most_frames < frames.len();
-    let mut pass = FoundPass::begin(alloc);
-    for frame in frames {
-        pass.meet(alloc, frame)?;
-        if are_many && pass.has_found() {
-            return Ok(None);
-        }
+    streams_are_those_met();
+    let (front, rest) = frames.split_at(front_length(most_frames, frames.len()));
+    let mut pass = FoundPass::begin(alloc, frames_shown);
+    pass.meet_all(alloc, front)?;
+    if pass.has_stopped() {
+        pass.meet_all(alloc, rest)?;
+        return Ok(Some(found_after(pass, frames.len() as u32, tails)));
+    }
+    if !pass.meet_silent(alloc, rest)? {
+        return Ok(None);
     }
     Ok(Some(found_after(pass, frames.len() as u32, tails)))
+}
+
+/// How many frames are met whatever they show: all, where they are no more than so many, and else a front.
+fn front_length(most_frames: usize, frames: usize) -> usize
+    ensures within { result ≤ frames }
+    ensures all { frames ≤ most_frames → result ≡ frames }
+{
+    if frames <= most_frames {
+        return frames;
+    }
+    frames / FRAMES_PER_FRONT_FRAME
 }
 
 /// What is told of a connection of so many frames, and of these tails, whose frames were all met.
 pub(crate) fn found_after(pass: FoundPass, frames: u32, tails: Sides<u32>) -> FoundConnection
     ensures { (client server : Flow) → (all : List FrameTerm) → IsTrue server.started
-        → AreAllFrames client server all frames tails → IsFoundAfter all pass → IsFoundOf client server result }
+        → AreAllFrames client server all frames tails → IsFoundAfter all pass
+        → IsFoundOf pass.frames_shown client server result }
 {
     streams_are_those_met();
     let mut findings = pass.found;

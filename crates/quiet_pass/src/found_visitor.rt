@@ -7,17 +7,20 @@ ghost use Rattle.tcp_streams.specs.declared.flows.Flow.{Flow};
 
 use crate::found_connections::{FoundConnection, found_after};
 use crate::found_passes::FoundPass;
+use crate::showing::Showing;
 use audit_terms::Frame;
 use h2_frames::{Ending, FrameVisitor};
 use std::alloc::{AllocError, Global};
+use std::marker::PhantomData;
 
 /// A machine that is handed a connection's frames.
 #[derive(Drop)]
-pub(crate) struct FoundVisitor {
+pub(crate) struct FoundVisitor<S> {
     pass: FoundPass,
+    showing: PhantomData<S>,
 }
 
-/// What the two flows of a connection hold, and what is shown of it, where credits are not shown.
+/// What the two flows of a connection hold, and what is shown of it.
 #[derive(Drop)]
 pub enum FoundCut {
     /// HTTP/2, of which this is shown.
@@ -30,10 +33,10 @@ pub enum FoundCut {
     NoHandshake,
 }
 
-impl FrameVisitor for FoundVisitor {
+impl<S: Showing> FrameVisitor for FoundVisitor<S> {
     ghost use Rattle.quiet_pass.specs.code.FoundFlows.{HaveBeenMet};
 
-    ghost after = { HaveBeenMet };
+    ghost after = { HaveBeenMet S.frames_shown };
 
     fn take(&mut self, alloc: Global, frame: &Frame) -> Result<(), AllocError> {
         self.pass.meet(alloc, frame)?;
@@ -41,20 +44,21 @@ impl FrameVisitor for FoundVisitor {
     }
 }
 
-impl FoundVisitor {
+impl<S: Showing> FoundVisitor<S> {
     /// A machine that was handed no frame.
     pub(crate) fn begin(alloc: Global) -> Self
-        ensures { HaveBeenMet [] result }
+        ensures { HaveBeenMet S.frames_shown [] result }
     {
         FoundVisitor {
-            pass: FoundPass::begin(alloc),
+            pass: FoundPass::begin(alloc, S::frames_shown()),
+            showing: PhantomData,
         }
     }
 
     /// What is told of two flows that end so, where these were their frames.
     pub(crate) fn found(self, ending: Ending) -> FoundCut
-        ensures { (client server : Flow) → IsEnding HaveBeenMet client server self ending
-            → IsFoundCut client server result }
+        ensures { (client server : Flow) → IsEnding (HaveBeenMet S.frames_shown) client server self ending
+            → IsFoundCut S.frames_shown client server result }
     {
         match ending {
             Ending::Http2 { count, tails } => {

@@ -37,7 +37,7 @@ pub(crate) fn held(standings: &Standings) -> Stream
     }
 }
 
-/// The same where a window has no credit left.
+/// The stream that is held so where a window has no credit left.
 fn low_stream(standings: &Standings) -> Stream
     requires { is_low standings.now ≡ true }
     ensures same { result ≡ low_stream standings.now }
@@ -82,7 +82,7 @@ pub(crate) fn hold(stream: &Stream) -> Option<Standings>
     }
 }
 
-/// The same where a window has no credit left.
+/// How a stream is held where a window has no credit left, if a row can hold it.
 fn hold_low(stream: &Stream) -> Option<Standings>
     ensures { ForSome result (λ standings. held standings ≡ stream.now) }
 {

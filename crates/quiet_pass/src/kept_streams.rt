@@ -2,19 +2,21 @@
 
 ghost use Rattle.std.specs.Prelude.{◌≡◌, ℕ, ◌<◌, ◌≤◌, ◌-◌, ◌^◌, true, false, [], None, Option, is_some, IfOk, OnOk};
 ghost use Rattle.std.specs.Bool.{OnTrue, OnFalse};
+ghost use Rattle.std.specs.Option.{ForSome};
 ghost use Rattle.audit_terms.specs.declared.sides.Sides.{Sides as SidesTerm};
 ghost use Rattle.audit_terms.specs.declared.stream_state.Stream.{Stream as StreamTerm};
 ghost use Rattle.audit_terms.specs.code.Room.{WindowHasRoom};
 ghost use Rattle.audit_terms.specs.Frame.{is_server_promise};
 ghost use Rattle.audit_terms.specs.code.runs.Orderly.{IsInRange};
 ghost use Rattle.quiet_pass.specs.code.Rows.{AreRising, IsMetOn};
-ghost use Rattle.quiet_pass.specs.code.Streams.{AreRowsOf, AreStreams, AreMetOn, ArePut, IsChangeSaid, shift_of};
+ghost use Rattle.quiet_pass.specs.code.Streams.{AreRowsOf, AreStreams, AreMetOn, ArePut, IsChangeSaid, IsShiftFor};
+ghost use Rattle.quiet_pass.specs.code.Streams.{shift_of};
 ghost use Rattle.quiet_pass.specs.code.WholeStreams.{AreListed};
 
 use crate::opened_rows::{Row, copied, entry_of, meet, new_row, open, put_plain, say_all};
 use crate::row_groups::RowGroups;
 use crate::shift_ranges::{lowered, raised_in, shift_after};
-use crate::shifted_rows::{lower_all, put_shifted, say_shifted};
+use crate::shifted_rows::{ShiftStep, lower_all, put_shifted, say_shifted};
 use crate::whole_streams::{WholeStreams, add_rows};
 use audit_terms::{Finding, Frame, Sides, Step, Stream, initial_after, row_of};
 use std::alloc::{AllocError, Global};
@@ -33,6 +35,8 @@ pub(crate) struct Streams {
 /// A shift of all rows, and what is known of groups of them.
 #[derive(Drop)]
 struct Shifted {
+    /// Are credits shown? It is known for this alone.
+    frames_shown: bool,
     shift: Sides<u32>,
     opened: RowGroups,
     promised: RowGroups,
@@ -122,6 +126,16 @@ impl Streams {
         match &self.shifted {
             Some(shifted) => Some(shifted.shift),
             None => None,
+        }
+    }
+
+    /// What rows hold credits less than, if they do, and what is known of groups of them is for this.
+    fn shift_for(&self, frames_shown: bool) -> Option<Sides<u32>>
+        ensures { ForSome result (IsShiftFor frames_shown self.now) }
+    {
+        match &self.shifted {
+            Some(shifted) if shifted.frames_shown == frames_shown => Some(shifted.shift),
+            _ => None,
         }
     }
 
@@ -219,6 +233,7 @@ impl Streams {
     pub(crate) fn say_change(
         &mut self,
         alloc: Global,
+        frames_shown: bool,
         found: &mut Vec<Finding>,
         initial: &Sides<u32>,
         step: &Step,
@@ -226,20 +241,20 @@ impl Streams {
         requires alone { step.now.frame ≡ None }
         requires numbered { step.now.number ≤ 2 ^ 28 - 2 }
         requires kept { (streams : ℕ → StreamTerm) × AreStreams streams self.old }
-        ensures said { IfOk result (λ said. OnTrue said (IsChangeSaid initial.now step.now
+        ensures said { IfOk result (λ said. OnTrue said (IsChangeSaid frames_shown initial.now step.now
             (λ streams. AreStreams streams self.old) (λ streams. AreStreams streams self.new)
             found.old.items found.new.items)) }
         ensures left { IfOk result (λ said. OnFalse said (self.new ≡ self.old)) }
         ensures found { IfOk result (λ said. OnFalse said (found.new ≡ found.old)) }
     {
         if self.shifted.is_some() {
-            return self.say_shifted(found, initial, step);
+            return self.say_shifted(frames_shown, found, initial, step);
         }
         let mut own = Vec::new(alloc);
         let mut opened = copied(alloc, self.opened.as_slice())?;
-        let odd = say_all(&mut opened, &mut own, initial, step)?;
+        let odd = say_all(frames_shown, &mut opened, &mut own, initial, step)?;
         let mut promised = copied(alloc, self.promised.as_slice())?;
-        let even = say_all(&mut promised, &mut own, initial, step)?;
+        let even = say_all(frames_shown, &mut promised, &mut own, initial, step)?;
         if !(odd & even) {
             return Ok(false);
         }
@@ -253,6 +268,7 @@ impl Streams {
     /// credits less the next one: then all stays.
     fn say_shifted(
         &mut self,
+        frames_shown: bool,
         found: &mut Vec<Finding>,
         initial: &Sides<u32>,
         step: &Step,
@@ -260,13 +276,13 @@ impl Streams {
         requires alone { step.now.frame ≡ None }
         requires numbered { step.now.number ≤ 2 ^ 28 - 2 }
         requires kept { (streams : ℕ → StreamTerm) × AreStreams streams self.old }
-        ensures said { IfOk result (λ said. OnTrue said (IsChangeSaid initial.now step.now
+        ensures said { IfOk result (λ said. OnTrue said (IsChangeSaid frames_shown initial.now step.now
             (λ streams. AreStreams streams self.old) (λ streams. AreStreams streams self.new)
             found.old.items found.new.items)) }
         ensures left { IfOk result (λ said. OnFalse said (self.new ≡ self.old)) }
         ensures found { IfOk result (λ said. OnFalse said (found.new ≡ found.old)) }
     {
-        let Some(shift) = self.shift() else {
+        let Some(shift) = self.shift_for(frames_shown) else {
             return Ok(false);
         };
         let after = initial_after(&step.change, initial);
@@ -276,26 +292,17 @@ impl Streams {
         let Some(mut shifted) = self.shifted.take() else {
             return Ok(false);
         };
+        let moving = ShiftStep {
+            frames_shown,
+            step,
+            before: initial,
+            shift,
+            next,
+        };
         let odd = self.opened.as_slice();
-        say_shifted(
-            odd,
-            &mut shifted.opened,
-            found,
-            initial,
-            step,
-            &shift,
-            &next,
-        )?;
+        say_shifted(odd, &mut shifted.opened, found, &moving)?;
         let even = self.promised.as_slice();
-        say_shifted(
-            even,
-            &mut shifted.promised,
-            found,
-            initial,
-            step,
-            &shift,
-            &next,
-        )?;
+        say_shifted(even, &mut shifted.promised, found, &moving)?;
         shifted.shift = next;
         self.shifted = Some(shifted);
         Ok(true)
@@ -315,7 +322,12 @@ impl Streams {
 
     /// Brings all rows to hold credits less the initial windows in force, so that changes move no row. Where a row
     /// cannot, they stay, which costs time alone.
-    pub(crate) fn shift_by(&mut self, alloc: Global, initial: &Sides<u32>) -> Result<(), AllocError>
+    pub(crate) fn shift_by(
+        &mut self,
+        alloc: Global,
+        frames_shown: bool,
+        initial: &Sides<u32>,
+    ) -> Result<(), AllocError>
         requires { is_some self.old.shifted ≡ false }
         ensures { OnOk result ((streams : ℕ → StreamTerm) → AreStreams streams self.old
             → AreStreams streams self.new) }
@@ -331,6 +343,7 @@ impl Streams {
         self.opened = odd;
         self.promised = even;
         self.shifted = Some(Shifted {
+            frames_shown,
             shift: *initial,
             opened,
             promised,

@@ -1,7 +1,8 @@
-//! Connections of which little is shown: most are so. A machine meets their frames one by one, in capture order, and
-//! keeps those alone at which something is shown where credits are not. [`found_in`] has it meet a list of frames, and
+//! A machine that meets a connection's frames one by one, in capture order, and keeps those alone at which something is
+//! shown: most connections show little, where credits are not shown. [`found_in`] has it meet a list of frames, and
 //! returns their number, how many bytes are left over, the findings, and the frames that they name
-//! ([`FoundConnection`]). A connection of which nothing is shown is a [`QuietConnection`].
+//! ([`FoundConnection`]). A connection of which nothing is shown is a [`QuietConnection`]. [`one_pass`] gives all that
+//! the machine says of a list.
 //!
 //! - The machine follows the pass of `audit_terms`, which steps from state to state. What it has said of the frames so
 //!   far is what is shown of them, and it stands for the state after them (`IsFoundAfter`). Most frames are met
@@ -10,8 +11,10 @@
 //! - At others it takes the connection and the streams that meet the frame as they stand, has `fault_rules` say what
 //!   the frame shows, and puts them back, whatever credit is left, and whether or not the streams are opened. So it
 //!   does with all streams at a change of the initial windows. Past a connection error nothing more is met, only
-//!   counted. `found_in` ends at the first finding where there are more frames than a caller allows: for no other
-//!   reason there is no answer.
+//!   counted. `found_in` meets a front of a list. It meets the rest if the audit stopped there, and else for as long as
+//!   nothing is found. Where it has no answer, frames are more than a caller allows, and something is shown.
+//! - Where credits are shown ([`Showing`]), no frame is met quietly, and a change shows the credit of each live window
+//!   that it moves: of a row that it leaves as it is, nothing.
 //! - A row holds no credit of -(2^31 - 1) or below, for which no capture has the bytes, and no stream that is opened
 //!   out of order, before which the audit of a capture stops. From the first stream on that no row holds, all stand in
 //!   full in a plain list (`whole_streams`), and no frame is met quietly. Before that, what fails leaves all as it was.
@@ -42,8 +45,8 @@
 //!   a credit by 2^32 at most (`MovesLittle`, `HasRoomLeft`).
 //! - Refused by the prover: content of a reset stream that the connection does not count (5.1); exchanged tails; an
 //!   audit that stops only if all findings of a frame end it; frames on a stalled stream that show nothing; a promise
-//!   that shows nothing of the promised stream; a first frame that a stage does not meet; frames that show nothing
-//!   where streams stand in full.
+//!   that shows nothing of the promised stream; a first frame that a stage does not meet; frames met quietly
+//!   where credits are shown; no answer for just as many frames as are allowed.
 //! - Tested, in `threads_test.py`: that connections of which nothing is shown go through no round but the first, and
 //!   that [`found_in`] tells a connection error without another. By whole reports: that both ways succeed where there
 //!   is memory. In `crate_tests`, over segments in disorder: that [`found_in`] and a stage of [`ConnectionFindings`]
@@ -60,6 +63,7 @@ mod kept_connection;
 mod kept_streams;
 mod opened_rows;
 mod passes;
+mod plain_pass;
 mod quiet_connections;
 mod quiet_frames;
 mod row_groups;
@@ -67,9 +71,12 @@ mod said_frames;
 mod said_settings;
 mod shift_ranges;
 mod shifted_rows;
+mod showing;
 mod whole_streams;
 
 pub use connection_findings::{ConnectionFindings, FoundFlows};
 pub use found_connections::{FoundConnection, found_in};
 pub use found_visitor::FoundCut;
+pub use plain_pass::one_pass;
 pub use quiet_connections::QuietConnection;
+pub use showing::{Showing, WithCredits, WithoutCredits};

@@ -75,20 +75,41 @@ impl Row {
         opened == 0 && client == 0 && server == 0
     }
 
-    /// The row after a change of the initial windows in force, if that shows nothing (RFC 9113, 6.9.2).
-    fn after_change(&self, before: &Sides<u32>, after: &Sides<u32>) -> Option<Row>
-        ensures { ForSome result (IsRowMoved before.now after.now self.now) }
+    /// The row after a change of the initial windows in force, if that shows nothing (RFC 9113, 6.9.2). Where credits
+    /// are shown, each move of a window is.
+    fn after_change(
+        &self,
+        frames_shown: bool,
+        before: &Sides<u32>,
+        after: &Sides<u32>,
+    ) -> Option<Row>
+        ensures moved { ForSome result (IsRowMoved before.now after.now self.now) }
+        ensures still { ForSome result (λ next. frames_shown ≡ true → next.standings ≡ self.now.standings) }
     {
-        Some(Row {
+        let next = Row {
             standings: held_after_change(&self.standings, before, after)?,
             ..*self
-        })
+        };
+        if frames_shown && !next.holds_as(self) {
+            return None;
+        }
+        Some(next)
+    }
+
+    /// Do both rows hold their streams alike?
+    fn holds_as(&self, other: &Row) -> bool
+        ensures { OnTrue result (self.now.standings ≡ other.now.standings) }
+    {
+        self.standings.opened == other.standings.opened
+            && self.standings.client == other.standings.client
+            && self.standings.server == other.standings.server
     }
 
     /// Adds what a step without a frame shows of the row's stream, and brings the row past the step; returns false if
     /// no row can say the stream then.
     fn say_change(
         &mut self,
+        frames_shown: bool,
         found: &mut Vec<Finding>,
         initial: &Sides<u32>,
         step: &Step,
@@ -96,11 +117,11 @@ impl Row {
         requires alone { step.now.frame ≡ None }
         requires numbered { step.now.number ≤ 2 ^ 28 - 2 }
         requires small { self.old.stream < 2 ^ 31 }
-        ensures { IfOk result (λ kept. IsRowSaid initial.now step.now kept self.old self.new found.old.items
-            found.new.items) }
+        ensures { IfOk result (λ kept. IsRowSaid frames_shown initial.now step.now kept self.old self.new
+            found.old.items found.new.items) }
     {
         let after = initial_after(&step.change, initial);
-        if let Some(next) = self.after_change(initial, &after) {
+        if let Some(next) = self.after_change(frames_shown, initial, &after) {
             *self = next;
             return Ok(true);
         }
@@ -278,6 +299,7 @@ pub(crate) fn open(
 /// Adds what a step without a frame shows of the streams of all rows, and brings the rows past the step; returns
 /// whether rows can say all streams then.
 pub(crate) fn say_all(
+    frames_shown: bool,
     rows: &mut Vec<Row>,
     found: &mut Vec<Finding>,
     before: &Sides<u32>,
@@ -286,13 +308,13 @@ pub(crate) fn say_all(
     requires alone { step.now.frame ≡ None }
     requires numbered { step.now.number ≤ 2 ^ 28 - 2 }
     requires own { (remainder : ℕ) × AreOfParity remainder rows.old.items }
-    ensures { IfOk result (λ kept. AreRowsSaid before.now step.now kept rows.old.items rows.new.items
+    ensures { IfOk result (λ kept. AreRowsSaid frames_shown before.now step.now kept rows.old.items rows.new.items
         found.old.items found.new.items) }
 {
     let mut are_kept = true;
     for at in 0..rows.len() {
         let mut row = rows[at];
-        let is_kept = row.say_change(found, before, step)?;
+        let is_kept = row.say_change(frames_shown, found, before, step)?;
         are_kept = are_kept & is_kept;
         rows[at] = row;
     }

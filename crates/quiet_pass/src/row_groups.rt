@@ -1,7 +1,8 @@
 //! Groups of rows, and for which shifts nothing is shown of any row of one. So a change goes only through the groups of
 //! which something may be shown, and through those of which a row was put since they were gone through.
 
-ghost use Rattle.std.specs.Prelude.{◌≡◌, ◌<◌, ◌≤◌, ◌≢◌, ◌+◌, true, List, ℕ, Some, OnOk, length, slice_get};
+ghost use Rattle.std.specs.Prelude.{◌≡◌, ◌<◌, ◌≤◌, ◌≢◌, ◌+◌, true, Bool, List, ℕ, Some, OnOk, length};
+ghost use Rattle.std.specs.Prelude.{slice_get};
 ghost use Rattle.std.specs.Bool.{OnTrue};
 ghost use Rattle.audit_terms.specs.declared.sides.Sides.{Sides as SidesTerm};
 ghost use Rattle.quiet_pass.specs.code.HeldStreams.{held};
@@ -34,7 +35,7 @@ struct Level {
 
 impl Level {
     fn new(alloc: Global, width: usize) -> Self
-        ensures { (rows : List RowTerm) → IsCovered result rows }
+        ensures { (frames_shown : Bool) (rows : List RowTerm) → IsCovered frames_shown result rows }
     {
         Level {
             width,
@@ -54,8 +55,8 @@ impl Level {
 
     /// Does a group begin at a row, of which nothing is shown where one shift follows another?
     fn is_quiet_from(&self, at: usize, shift: &Sides<u32>, next: &Sides<u32>) -> bool
-        ensures { OnTrue result ((rows : List RowTerm) → IsCovered self.now rows
-            → AreRowsQuiet shift.now next.now at self.now.width rows) }
+        ensures { OnTrue result ((frames_shown : Bool) (rows : List RowTerm) → IsCovered frames_shown self.now rows
+            → AreRowsQuiet frames_shown shift.now next.now at self.now.width rows) }
     {
         if self.width == 0 || at % self.width != 0 {
             return false;
@@ -66,8 +67,9 @@ impl Level {
 
     /// Forgets what is known of the group of a row.
     fn forget(&mut self, at: usize) -> Result<(), AllocError>
-        ensures { OnOk result ((old new : List RowTerm) → IsCovered self.old old
-            → ((other : ℕ) → other ≢ at → slice_get new other ≡ slice_get old other) → IsCovered self.new new) }
+        ensures { OnOk result ((frames_shown : Bool) (old new : List RowTerm) → IsCovered frames_shown self.old old
+            → ((other : ℕ) → other ≢ at → slice_get new other ≡ slice_get old other)
+            → IsCovered frames_shown self.new new) }
     {
         if self.width == 0 {
             return Ok(());
@@ -84,8 +86,8 @@ impl Level {
     /// Keeps what is known of a group.
     fn learn(&mut self, group: usize, quiet: QuietShifts)
         ensures same { self.new.width ≡ self.old.width }
-        ensures covered { (rows : List RowTerm) → IsCovered self.old rows
-            → IsGroupQuiet self.old.width group quiet rows → IsCovered self.new rows }
+        ensures covered { (frames_shown : Bool) (rows : List RowTerm) → IsCovered frames_shown self.old rows
+            → IsGroupQuiet frames_shown self.old.width group quiet rows → IsCovered frames_shown self.new rows }
     {
         if group < self.known.len() {
             self.known[group] = quiet;
@@ -109,15 +111,21 @@ impl Level {
 }
 
 /// The shifts for which nothing is shown of the rows of a range, these among them.
-fn quiet_of(rows: &[Row], first: usize, end: usize, shift: &Sides<u32>) -> QuietShifts
+fn quiet_of(
+    frames_shown: bool,
+    rows: &[Row],
+    first: usize,
+    end: usize,
+    shift: &Sides<u32>,
+) -> QuietShifts
     requires { end ≤ length rows.now }
     ensures { (at : ℕ) (row : RowTerm) → first ≤ at → at < end → slice_get rows.now at ≡ Some row
-        → IsRowQuietFor result row }
+        → IsRowQuietFor frames_shown result row }
 {
     let mut quiet = QuietShifts::every();
     for at in first..end {
         let entry = held(&rows[at].standings);
-        quiet = quiet.both(&QuietShifts::of(&entry, shift));
+        quiet = quiet.both(&QuietShifts::of(frames_shown, &entry, shift));
     }
     quiet
 }
@@ -131,9 +139,9 @@ pub(crate) struct RowGroups {
 }
 
 impl RowGroups {
-    /// Of which nothing is known.
+    /// Nothing is known of any group.
     pub(crate) fn new(alloc: Global) -> Self
-        ensures { (rows : List RowTerm) → AreCovered result rows }
+        ensures { (frames_shown : Bool) (rows : List RowTerm) → AreCovered frames_shown result rows }
     {
         RowGroups {
             small: Level::new(alloc, SMALL),
@@ -142,9 +150,10 @@ impl RowGroups {
         }
     }
 
-    /// Of how many rows from one on nothing is shown where one shift follows another, as far as is known.
+    /// How many rows from one on are known to show nothing where one shift follows another.
     pub(crate) fn quiet_from(&self, at: usize, shift: &Sides<u32>, next: &Sides<u32>) -> usize
-        ensures { (rows : List RowTerm) → AreCovered self.now rows → AreRowsQuiet shift.now next.now at result rows }
+        ensures { (frames_shown : Bool) (rows : List RowTerm) → AreCovered frames_shown self.now rows
+            → AreRowsQuiet frames_shown shift.now next.now at result rows }
     {
         if at % SMALL != 0 || !self.small.is_quiet_from(at, shift, next) {
             return 0;
@@ -160,8 +169,9 @@ impl RowGroups {
 
     /// Forgets what is known of the groups of a row, which is another one now.
     pub(crate) fn forget(&mut self, at: usize) -> Result<(), AllocError>
-        ensures { OnOk result ((old new : List RowTerm) → AreCovered self.old old
-            → ((other : ℕ) → other ≢ at → slice_get new other ≡ slice_get old other) → AreCovered self.new new) }
+        ensures { OnOk result ((frames_shown : Bool) (old new : List RowTerm) → AreCovered frames_shown self.old old
+            → ((other : ℕ) → other ≢ at → slice_get new other ≡ slice_get old other)
+            → AreCovered frames_shown self.new new) }
     {
         self.small.forget(at)?;
         self.middle.forget(at)?;
@@ -171,21 +181,27 @@ impl RowGroups {
 
     /// Learns for which shifts, these among them, the rows of the groups are quiet that end before a row, unless these
     /// are known already.
-    pub(crate) fn learn_before(&mut self, rows: &[Row], end: usize, shift: &Sides<u32>)
-        ensures { AreCovered self.old rows.now → AreCovered self.new rows.now }
+    pub(crate) fn learn_before(
+        &mut self,
+        frames_shown: bool,
+        rows: &[Row],
+        end: usize,
+        shift: &Sides<u32>,
+    )
+        ensures { AreCovered frames_shown self.old rows.now → AreCovered frames_shown self.new rows.now }
     {
         if end % SMALL != 0 && end < rows.len() {
             return;
         }
-        learn_rows(&mut self.small, rows, end, shift);
+        learn_rows(&mut self.small, frames_shown, rows, end, shift);
         learn_groups(&mut self.middle, &self.small, rows, end, shift);
         learn_groups(&mut self.large, &self.middle, rows, end, shift);
     }
 }
 
 /// Learns for which shifts the rows of the group are quiet that ends before a row, or with the last one.
-fn learn_rows(small: &mut Level, rows: &[Row], end: usize, shift: &Sides<u32>)
-    ensures { IsCovered small.old rows.now → IsCovered small.new rows.now }
+fn learn_rows(small: &mut Level, frames_shown: bool, rows: &[Row], end: usize, shift: &Sides<u32>)
+    ensures { IsCovered frames_shown small.old rows.now → IsCovered frames_shown small.new rows.now }
 {
     if small.width == 0 || end == 0 {
         return;
@@ -195,13 +211,15 @@ fn learn_rows(small: &mut Level, rows: &[Row], end: usize, shift: &Sides<u32>)
         return;
     }
     let first = (end - 1) - (end - 1) % small.width;
-    let quiet = quiet_of(rows, first, end_of(first, small.width, rows.len()), shift);
+    let past = end_of(first, small.width, rows.len());
+    let quiet = quiet_of(frames_shown, rows, first, past, shift);
     small.learn(group, quiet);
 }
 
 /// The same, by the groups below, if a group ends there.
 fn learn_groups(level: &mut Level, below: &Level, rows: &[Row], end: usize, shift: &Sides<u32>)
-    ensures { IsCovered below.now rows.now → IsCovered level.old rows.now → IsCovered level.new rows.now }
+    ensures { (frames_shown : Bool) → IsCovered frames_shown below.now rows.now
+        → IsCovered frames_shown level.old rows.now → IsCovered frames_shown level.new rows.now }
 {
     if level.width == 0 || below.width == 0 || end == 0 {
         return;

@@ -20,12 +20,17 @@ use std::alloc::{AllocError, Global};
 impl QuietPass {
     /// What a frame shows that brings no change, in order: by itself, of the connection, and of its stream and the one
     /// that it promises. Then the machine is past it, unless the audit stops there.
-    pub(crate) fn say(&mut self, alloc: Global, frame: &Frame) -> Result<Vec<Finding>, AllocError>
+    pub(crate) fn say(
+        &mut self,
+        alloc: Global,
+        frames_shown: bool,
+        frame: &Frame,
+    ) -> Result<Vec<Finding>, AllocError>
         requires range { IsInRange frame.now }
         requires plain { BringsNothing frame.now }
         requires room { HasRoomKept self.old }
         ensures { IfOk result (λ found. (state : PassState) → StandsFor self.old state
-            → IsSaidStep state frame.now found.items self.new) }
+            → IsSaidStep frames_shown state frame.now found.items self.new) }
     {
         let mut found = Vec::new(alloc);
         let mut own = self.streams.entry_of(frame.stream);
@@ -35,7 +40,7 @@ impl QuietPass {
         let connection = self.say_alone(&mut found, frame, opens, &None)?;
         self.say_entry(&mut found, &mut own, frame.stream, frame)?;
         self.say_entry(&mut found, &mut promised, other, frame)?;
-        if shows_stop(&mut found)? {
+        if shows_stop(frames_shown, &mut found)? {
             return Ok(found);
         }
         self.keep_after(alloc, frame, &connection, &own, &promised)?;
@@ -121,13 +126,13 @@ impl QuietPass {
     }
 }
 
-/// Puts what a frame shows in order, without credits, and returns whether the audit stops at it.
-pub(crate) fn shows_stop(found: &mut Vec<Finding>) -> Result<bool, AllocError>
-    ensures shown { OnOk result (found.new.items ≡ shown false (in_order found.old.items)) }
+/// Puts what a frame shows in order, without credits unless they are shown, and returns whether the audit stops at it.
+pub(crate) fn shows_stop(frames_shown: bool, found: &mut Vec<Finding>) -> Result<bool, AllocError>
+    ensures shown { OnOk result (found.new.items ≡ shown frames_shown (in_order found.old.items)) }
     ensures stops { IfOk result (λ ends. ends ≡ list_any stops found.new.items) }
 {
     put_in_order(found)?;
-    keep_shown(found, false);
+    keep_shown(found, frames_shown);
     Ok(has_stop(found.as_slice()))
 }
 

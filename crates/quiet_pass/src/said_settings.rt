@@ -67,6 +67,7 @@ impl QuietPass {
     pub(crate) fn say_settings(
         &mut self,
         alloc: Global,
+        frames_shown: bool,
         frame: &Frame,
         change: &Option<Change>,
     ) -> Result<Vec<Finding>, AllocError>
@@ -74,13 +75,14 @@ impl QuietPass {
         requires unmoved { MovesNoStream frame.now }
         requires room { HasRoomKept self.old }
         ensures { IfOk result (λ found. (before : PassTerm) → HasBrought frame.now change.now before self.old
-            → (state : PassState) → StandsFor before state → IsSaidStep state frame.now found.items self.new) }
+            → (state : PassState) → StandsFor before state
+            → IsSaidStep frames_shown state frame.now found.items self.new) }
     {
         let mut found = Vec::new(alloc);
         say_unmatched(&mut found, frame, change)?;
         let connection = self.say_alone(&mut found, frame, false, change)?;
-        self.say_change(alloc, &mut found, frame, change)?;
-        if shows_stop(&mut found)? {
+        self.say_change(alloc, frames_shown, &mut found, frame, change)?;
+        if shows_stop(frames_shown, &mut found)? {
             return Ok(found);
         }
         self.keep_connection(frame, &connection);
@@ -100,40 +102,47 @@ impl QuietPass {
     fn say_change(
         &mut self,
         alloc: Global,
+        frames_shown: bool,
         found: &mut Vec<Finding>,
         frame: &Frame,
         change: &Option<Change>,
     ) -> Result<(), AllocError>
         requires numbered { frame.now.number ≤ 2 ^ 28 - 2 }
         requires room { HoldRoom self.old.streams }
-        ensures { OnOk result (IsBroughtSaying frame.now change.now self.old self.new found.old.items
+        ensures { OnOk result (IsBroughtSaying frames_shown frame.now change.now self.old self.new found.old.items
             found.new.items) }
     {
         if self.leaves_windows(change) {
             return Ok(());
         }
         let after = initial_after(change, &self.initial);
-        self.count_moves(alloc, frame)?;
+        self.count_moves(alloc, frames_shown, frame)?;
         let step = Step {
             number: frame.number,
             frame: None,
             change: *change,
         };
-        self.streams.say_change(alloc, found, &self.initial, &step)?;
+        self.streams
+            .say_change(alloc, frames_shown, found, &self.initial, &step)?;
         self.initial = after;
         Ok(())
     }
 
     /// Counts the rows that a change moves. Where those are too many, all rows are brought to hold credits less a
     /// shift, so that a change moves that alone.
-    fn count_moves(&mut self, alloc: Global, frame: &Frame) -> Result<(), AllocError>
+    fn count_moves(
+        &mut self,
+        alloc: Global,
+        frames_shown: bool,
+        frame: &Frame,
+    ) -> Result<(), AllocError>
         ensures { OnOk result (HasCountedMoves self.old self.new) }
     {
         if self.streams.are_shifted() {
             return Ok(());
         }
         let Some(moves) = self.moves_with(frame) else {
-            self.streams.shift_by(alloc, &self.initial)?;
+            self.streams.shift_by(alloc, frames_shown, &self.initial)?;
             return Ok(());
         };
         self.moves = moves;

@@ -1,7 +1,7 @@
 //! Shifts: where changes of the initial windows are many, rows hold credits less a shift, and a change moves the shift
 //! alone. What is shown of a window depends on the shift before it and after it; for those of one range nothing is.
 
-ghost use Rattle.std.specs.Prelude.{◌≡◌, ◌+◌, ◌+ℤ◌, ◌-ℤ◌, ◌^◌, ◌≤ℤ◌, pos, true, false, ℕ, Option};
+ghost use Rattle.std.specs.Prelude.{◌≡◌, ◌+◌, ◌+ℤ◌, ◌-ℤ◌, ◌^◌, ◌≤ℤ◌, pos, true, false, Bool, ℕ, ℤ, Option};
 ghost use Rattle.std.specs.Option.{ForSome};
 ghost use Rattle.audit_terms.specs.declared.sides.Sides.{Sides as SidesTerm};
 ghost use Rattle.audit_terms.specs.code.Room.{HasRoom, WindowHasRoom};
@@ -38,23 +38,44 @@ impl ShiftRange {
 
     /// The shifts for which nothing is shown of a window, if they follow each other and this one is among them. A row
     /// holds the window.
-    fn of(window: Option<i64>, shift: u32) -> Self
+    fn of(frames_shown: bool, window: Option<i64>, shift: u32) -> Self
         requires { WindowHasRoom (2 ^ 32) window }
-        ensures { IsWindowQuietFor result window }
+        ensures { IsWindowQuietFor frames_shown result window }
     {
         match window {
             None => ShiftRange {
                 least: 0,
                 most: i64::from(u32::MAX),
             },
-            Some(credit) => ShiftRange::of_credit(credit, raised_credit(credit, shift) <= 0),
+            Some(credit) => ShiftRange::of_live(frames_shown, credit, shift),
         }
     }
 
-    /// The same of a live window, which is used up or not.
+    /// The shifts for which nothing is shown of a live window.
+    fn of_live(frames_shown: bool, credit: i64, shift: u32) -> Self
+        requires { HasRoom (2 ^ 32) credit }
+        ensures { IsWindowQuietFor frames_shown result (Option.Some credit) }
+    {
+        if frames_shown {
+            return ShiftRange::alone(shift);
+        }
+        ShiftRange::of_credit(credit, raised_credit(credit, shift) <= 0)
+    }
+
+    /// This shift and no other: where credits are shown, each move of a live window is.
+    fn alone(shift: u32) -> Self
+        ensures { (frames_shown : Bool) (window : Option ℤ) → IsWindowQuietFor frames_shown result window }
+    {
+        ShiftRange {
+            least: i64::from(shift),
+            most: i64::from(shift),
+        }
+    }
+
+    /// The shifts for which nothing but credits is shown of a live window, which is used up or not.
     fn of_credit(credit: i64, is_used_up: bool) -> Self
         requires { HasRoom (2 ^ 32) credit }
-        ensures { IsWindowQuietFor result (Option.Some credit) }
+        ensures { IsWindowQuietFor false result (Option.Some credit) }
     {
         if is_used_up {
             return ShiftRange {
@@ -143,14 +164,14 @@ impl QuietShifts {
     }
 
     /// Those of a stream that is held so, these shifts among them.
-    pub(crate) fn of(entry: &Stream, shift: &Sides<u32>) -> Self
+    pub(crate) fn of(frames_shown: bool, entry: &Stream, shift: &Sides<u32>) -> Self
         requires client { WindowHasRoom (2 ^ 32) entry.now.window.client }
         requires server { WindowHasRoom (2 ^ 32) entry.now.window.server }
-        ensures { IsEntryQuietFor result entry.now }
+        ensures { IsEntryQuietFor frames_shown result entry.now }
     {
         QuietShifts {
-            client: ShiftRange::of(entry.window.client, shift.client),
-            server: ShiftRange::of(entry.window.server, shift.server),
+            client: ShiftRange::of(frames_shown, entry.window.client, shift.client),
+            server: ShiftRange::of(frames_shown, entry.window.server, shift.server),
         }
     }
 }

@@ -1,14 +1,14 @@
 //! Rows that hold credits less a shift: what a change shows of them, and how rows begin to hold credits so.
 
-ghost use Rattle.std.specs.Prelude.{◌≡◌, ◌<◌, ◌≤◌, ◌-◌, ◌^◌, ◌++◌, ℕ, false, None, IfOk, OnOk, drop, length};
+ghost use Rattle.std.specs.Prelude.{◌≡◌, ◌<◌, ◌≤◌, ◌-◌, ◌^◌, ◌++◌, Bool, ℕ, None, IfOk, OnOk, drop, length};
 ghost use Rattle.std.specs.Bool.{OnTrue, OnFalse};
 ghost use Rattle.std.specs.List.{flat_map};
 ghost use Rattle.std.specs.Option.{ForSome};
 ghost use Rattle.audit_terms.specs.Finding.{shown};
 ghost use Rattle.quiet_pass.specs.code.HeldStreams.{held};
-ghost use Rattle.quiet_pass.specs.code.Rows.{AreLowered, AreOfParity, AreRising, IsLowered, IsPut, shifted_said};
-ghost use Rattle.quiet_pass.specs.code.Shifts.{AreCovered, AreRowsQuiet, IsShiftMoved, raised};
-ghost use Rattle.audit_terms.specs.code.runs.Streams.{initial_after};
+ghost use Rattle.quiet_pass.specs.code.Rows.{AreLowered, AreOfParity, AreRising, IsLowered, IsPut};
+ghost use Rattle.quiet_pass.specs.code.ShiftSteps.{IsShiftStep, said_at};
+ghost use Rattle.quiet_pass.specs.code.Shifts.{AreCovered, AreRowsQuiet, raised};
 
 use crate::held_streams::{held, hold};
 use crate::opened_rows::{Row, put};
@@ -18,30 +18,38 @@ use audit_terms::{Finding, Sides, Step, Stream};
 use fault_rules::say_stream;
 use std::alloc::{AllocError, Global};
 
+/// A step without a frame, whose change moves the shift that rows hold credits less than.
+#[derive(Clone, Copy)]
+pub(crate) struct ShiftStep<'a> {
+    pub(crate) frames_shown: bool,
+    pub(crate) step: &'a Step,
+    /// The initial windows in force before it.
+    pub(crate) before: &'a Sides<u32>,
+    pub(crate) shift: Sides<u32>,
+    /// The shift after it.
+    pub(crate) next: Sides<u32>,
+}
+
 impl Row {
-    /// Adds what a step without a frame shows of the row's stream, where a change moves the shift.
+    /// Adds what a step shows of the row's stream.
     fn say_shifted(
         &self,
         found: &mut Vec<Finding>,
-        before: &Sides<u32>,
-        step: &Step,
-        shift: &Sides<u32>,
-        next: &Sides<u32>,
+        moving: &ShiftStep<'_>,
     ) -> Result<(), AllocError>
-        requires alone { step.now.frame ≡ None }
-        requires numbered { step.now.number ≤ 2 ^ 28 - 2 }
+        requires moving { IsShiftStep moving.now }
         requires small { self.now.stream < 2 ^ 31 }
-        requires moved { IsShiftMoved before.now (initial_after step.now.change before.now) shift.now next.now }
-        ensures { OnOk result (shown false found.new.items
-            ≡ shown false found.old.items ++ shown false (shifted_said shift.now before.now step.now self.now)) }
+        ensures { OnOk result (shown moving.now.frames_shown found.new.items
+            ≡ shown moving.now.frames_shown found.old.items
+            ++ shown moving.now.frames_shown (said_at moving.now self.now)) }
     {
         let entry = held(&self.standings);
-        let quiet = QuietShifts::of(&entry, shift);
-        if quiet.have(shift) && quiet.have(next) {
+        let quiet = QuietShifts::of(moving.frames_shown, &entry, &moving.shift);
+        if quiet.have(&moving.shift) && quiet.have(&moving.next) {
             return Ok(());
         }
-        let mut entry = raised(&entry, shift);
-        say_stream(found, &mut entry, self.stream, before, step)?;
+        let mut entry = raised(&entry, &moving.shift);
+        say_stream(found, &mut entry, self.stream, moving.before, moving.step)?;
         Ok(())
     }
 
@@ -58,30 +66,26 @@ impl Row {
     }
 }
 
-/// Adds what a step without a frame shows of the streams of all rows, where a change moves the shift.
+/// Adds what a step shows of the streams of all rows.
 pub(crate) fn say_shifted(
     rows: &[Row],
     groups: &mut RowGroups,
     found: &mut Vec<Finding>,
-    before: &Sides<u32>,
-    step: &Step,
-    shift: &Sides<u32>,
-    next: &Sides<u32>,
+    moving: &ShiftStep<'_>,
 ) -> Result<(), AllocError>
-    requires alone { step.now.frame ≡ None }
-    requires numbered { step.now.number ≤ 2 ^ 28 - 2 }
+    requires moving { IsShiftStep moving.now }
     requires own { (remainder : ℕ) × AreOfParity remainder rows.now }
-    requires moved { IsShiftMoved before.now (initial_after step.now.change before.now) shift.now next.now }
-    ensures said { OnOk result (AreCovered groups.old rows.now → shown false found.new.items
-        ≡ shown false found.old.items
-        ++ shown false (flat_map (shifted_said shift.now before.now step.now) rows.now)) }
-    ensures covered { OnOk result (AreCovered groups.old rows.now → AreCovered groups.new rows.now) }
+    ensures said { OnOk result (AreCovered moving.now.frames_shown groups.old rows.now
+        → shown moving.now.frames_shown found.new.items ≡ shown moving.now.frames_shown found.old.items
+        ++ shown moving.now.frames_shown (flat_map (said_at moving.now) rows.now)) }
+    ensures covered { OnOk result (AreCovered moving.now.frames_shown groups.old rows.now
+        → AreCovered moving.now.frames_shown groups.new rows.now) }
 {
     let mut at = 0;
     while at < rows.len() {
-        let quiet = groups.quiet_from(at, shift, next);
-        at = say_from(rows, at, quiet, found, before, step, shift, next)?;
-        groups.learn_before(rows, at, next);
+        let quiet = groups.quiet_from(at, &moving.shift, &moving.next);
+        at = say_from(rows, at, quiet, found, moving)?;
+        groups.learn_before(moving.frames_shown, rows, at, &moving.next);
     }
     Ok(())
 }
@@ -93,27 +97,22 @@ fn say_from(
     at: usize,
     quiet: usize,
     found: &mut Vec<Finding>,
-    before: &Sides<u32>,
-    step: &Step,
-    shift: &Sides<u32>,
-    next: &Sides<u32>,
+    moving: &ShiftStep<'_>,
 ) -> Result<usize, AllocError>
     requires inside { at < length rows.now }
-    requires alone { step.now.frame ≡ None }
-    requires numbered { step.now.number ≤ 2 ^ 28 - 2 }
+    requires moving { IsShiftStep moving.now }
     requires own { (remainder : ℕ) × AreOfParity remainder rows.now }
-    requires moved { IsShiftMoved before.now (initial_after step.now.change before.now) shift.now next.now }
     ensures past { IfOk result (λ to. (at < to) × (to ≤ length rows.now)) }
-    ensures said { IfOk result (λ to. AreRowsQuiet shift.now next.now at quiet rows.now
-        → shown false found.new.items
-        ++ shown false (flat_map (shifted_said shift.now before.now step.now) (drop to rows.now))
-        ≡ shown false found.old.items
-        ++ shown false (flat_map (shifted_said shift.now before.now step.now) (drop at rows.now))) }
+    ensures said { IfOk result (λ to. AreRowsQuiet moving.now.frames_shown moving.now.shift moving.now.next at quiet
+        rows.now → shown moving.now.frames_shown found.new.items
+        ++ shown moving.now.frames_shown (flat_map (said_at moving.now) (drop to rows.now))
+        ≡ shown moving.now.frames_shown found.old.items
+        ++ shown moving.now.frames_shown (flat_map (said_at moving.now) (drop at rows.now))) }
 {
     if 0 < quiet {
         return Ok(end_of(at, quiet, rows.len()));
     }
-    rows[at].say_shifted(found, before, step, shift, next)?;
+    rows[at].say_shifted(found, moving)?;
     Ok(at + 1)
 }
 
@@ -126,7 +125,8 @@ pub(crate) fn lower_all(
 ) -> Result<Option<RowGroups>, AllocError>
     ensures lowered { IfOk result (λ made. ForSome made (λ groups.
         AreLowered shift.now rows.old.items rows.new.items)) }
-    ensures covered { IfOk result (λ made. ForSome made (λ groups. AreCovered groups rows.new.items)) }
+    ensures covered { IfOk result (λ made. ForSome made (λ groups.
+        (frames_shown : Bool) → AreCovered frames_shown groups rows.new.items)) }
 {
     let mut groups = RowGroups::new(alloc);
     for at in 0..rows.len() {
@@ -150,8 +150,8 @@ pub(crate) fn put_shifted(
 ) -> Result<bool, AllocError>
     ensures put { IfOk result (λ done. OnTrue done (AreRising rows.old.items
         → IsPut stream low.now rows.old.items rows.new.items)) }
-    ensures covered { IfOk result (λ done. OnTrue done (AreCovered groups.old rows.old.items
-        → AreCovered groups.new rows.new.items)) }
+    ensures covered { IfOk result (λ done. OnTrue done ((frames_shown : Bool)
+        → AreCovered frames_shown groups.old rows.old.items → AreCovered frames_shown groups.new rows.new.items)) }
     ensures rows { IfOk result (λ done. OnFalse done (rows.new ≡ rows.old)) }
     ensures groups { IfOk result (λ done. OnFalse done (groups.new ≡ groups.old)) }
 {

@@ -1,7 +1,7 @@
 //! All streams in full, in a plain list: from the first stream on that no row holds. No capture comes so far, since it
 //! has not the bytes for such credits, and no stream out of order is opened before its audit stops.
 
-ghost use Rattle.std.specs.Prelude.{◌≡◌, ◌+◌, ◌^◌, ◌<◌, ◌≤◌, ◌-◌, ◌∷◌, ◌++◌, ℕ, None, IfOk, OnOk};
+ghost use Rattle.std.specs.Prelude.{◌≡◌, ◌+◌, ◌^◌, ◌<◌, ◌≤◌, ◌-◌, ◌∷◌, ◌++◌, Bool, ℕ, None, IfOk, OnOk};
 ghost use Rattle.std.specs.Prelude.{drop, length, map};
 ghost use Rattle.std.specs.List.{AllByRecursion, flat_map};
 ghost use Rattle.audit_terms.specs.declared.stream_state.Stream.{Stream as StreamTerm};
@@ -77,8 +77,9 @@ impl WholeStreams {
         requires alone { step.now.frame ≡ None }
         requires numbered { step.now.number ≤ 2 ^ 28 - 2 }
         requires room { (streams : ℕ → StreamTerm) × AreListed streams self.old.list.items × HaveRoomIn streams }
-        ensures { OnOk result (IsChangeSaid before.now step.now (λ streams. AreListed streams self.old.list.items)
-            (λ streams. AreListed streams self.new.list.items) found.old.items found.new.items) }
+        ensures { OnOk result ((frames_shown : Bool) → IsChangeSaid frames_shown before.now step.now
+            (λ streams. AreListed streams self.old.list.items) (λ streams. AreListed streams self.new.list.items)
+            found.old.items found.new.items) }
     {
         let list = said_each(alloc, self.list.as_slice(), found, before, step)?;
         self.list = list;

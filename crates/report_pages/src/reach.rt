@@ -2,7 +2,7 @@ ghost use Rattle.std.specs.Prelude.{◌≡◌};
 
 use audit_report::Extent;
 use audit_terms::Sides;
-use tcp_streams::{Flow, FlowEnd};
+use tcp_streams::FlowEnd;
 
 /// The extent of a flow of a capture in 8 bytes: if bytes are missing, the first missing offset is its length.
 #[derive(Clone, Copy)]
@@ -19,34 +19,7 @@ impl Reach {
     ghost use Rattle.audit_report.specs.FlowLine.{extent_of, extents_of};
     ghost use Rattle.report_pages.specs.code.Reach.{HasGapAtEnd, extent_in, extents_in};
     ghost use Rattle.h2_frames.specs.code.ConnectionFrames.{EndsSo};
-    ghost use Rattle.tcp_streams.specs.code.Orderly.{IsOrderly};
     ghost use Rattle.tcp_streams.specs.declared.flows.Flow.{Flow as FlowTerm};
-
-    /// The reach of one flow.
-    fn of(flow: &Flow) -> Reach
-        requires orderly { IsOrderly flow.now }
-        requires gap { HasGapAtEnd flow.now }
-        ensures { extent_in result ≡ extent_of flow.now }
-    {
-        Reach {
-            size: flow.length() as u32,
-            has_gap: flow.gap.is_some(),
-        }
-    }
-
-    /// The reach of a connection's flows, which need no longer be kept for the report.
-    pub fn of_both(client: &Flow, server: &Flow) -> Sides<Reach>
-        requires client { IsOrderly client.now }
-        requires server { IsOrderly server.now }
-        requires client_gap { HasGapAtEnd client.now }
-        requires server_gap { HasGapAtEnd server.now }
-        ensures { extents_in result ≡ extents_of client.now server.now }
-    {
-        Sides {
-            client: Reach::of(client),
-            server: Reach::of(server),
-        }
-    }
 
     /// The reach of a flow that ends so.
     fn of_end(end: FlowEnd) -> Reach

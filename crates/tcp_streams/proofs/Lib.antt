@@ -2,7 +2,6 @@ pub mod Belongings
 pub mod Both
 pub mod Contents
 pub mod FlowLemmas
-mod Takings
 pub mod Growth
 pub mod GrowthLaws
 pub mod Handing

@@ -93,6 +93,11 @@ module _ (b : Bool) (xs : List Segment) (s : Segment) where
   pub list_any-other : (test : Segment → Bool) → test s ≡ false → list_any test (with_if b xs s) ≡ list_any test xs
   list_any-other test h = grind (arith, list_any-append test xs (s ∷ []))
 
+-- what follows from two facts that hold where an answer is good
+pub both_ok : {T E P Q R : Type 0} (answer : Result T E) → (P → Q → R) → OnOk answer P → OnOk answer Q → OnOk answer R
+both_ok (Ok _) follows p q = follows p q
+both_ok (Err _) follows p q = tt
+
 -- several clauses of one call that went well
 pub on_ok_3 : {A E P Q R W : Type 0} (r : Result A E) → OnOk r P → OnOk r Q → OnOk r R → (P → Q → R → W) → OnOk r W
 on_ok_3 (Ok x) p q h f = f p q h

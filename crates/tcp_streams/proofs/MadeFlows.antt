@@ -1,19 +1,16 @@
 -- Segments whose growths were handed on have flows: values of both, made of the growths.
 use denote.RawPtr.{null_ptr}
-use Rattle.tcp_streams.proofs.Words.{◌≡◌, ℕ, ◌+◌, ◌<◌, ◌≤◌, ◌^◌, List, [], ◌∷◌, Option, None, Some, refl, arith}
+use Rattle.tcp_streams.proofs.Words.{ℕ, ◌+◌, ◌<◌, ◌≤◌, ◌^◌, List, [], ◌∷◌, Option, None, Some, refl, arith}
 use Rattle.tcp_streams.proofs.Words.{append-nil, length, sym, Arrival, Client, Rises, Segment, Server, Side}
 use Rattle.std.proofs.Common.{subst, true, false}
 use Rattle.std.specs.Prelude.{Vec}
 use Rattle.std.specs.declared.alloc.Global.{Global}
-use Rattle.audit_terms.specs.declared.sides.Sides.{Sides}
-use denote.Ref.{Bor}
 use Rattle.packet_heads.specs.declared.packets.{Endpoint.Endpoint}
-use Rattle.tcp_streams.specs.Bytes.{bytes_of}
 use Rattle.tcp_streams.specs.Flow.{IsFlow, IsFlowFrom}
 use Rattle.tcp_streams.specs.Sequence.{source}
 use Rattle.tcp_streams.specs.code.Flows.{HasHandedOn, IsHandedOn, IsServerHandedOn, server_number}
 use Rattle.tcp_streams.specs.code.Grown.{Growth, arrivals_grown, bytes_grown, of_side}
-use Rattle.tcp_streams.specs.code.SentFlows.{AreFlowsSent, HaveFlows}
+use Rattle.tcp_streams.specs.code.SentFlows.{HaveFlows}
 use Rattle.tcp_streams.specs.code.Side.{AreSentIn, Sent, segments_among}
 use Rattle.tcp_streams.specs.code.Taken.{sent_by}
 use Rattle.tcp_streams.specs.declared.{connection_flows.FlowEnd.FlowEnd, connection_flows.HandedFlows.HandedFlows}

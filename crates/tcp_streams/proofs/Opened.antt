@@ -1,6 +1,6 @@
 -- What one packet more makes of the connections whose segments are handed on.
 use Rattle.std.specs.List.{AllZip}
-use Rattle.std.specs.Prelude.{find, option_map, slice_range}
+use Rattle.std.specs.Prelude.{slice_range}
 use Rattle.std.proofs.Common.{subst}
 use Rattle.std.proofs.lemmas.List.{Sums.sum_by_push}
 use Rattle.packet_heads.specs.code.Handed.{ArePayloadsOf, Handed, IsNextPacket, packets_among}
@@ -11,16 +11,12 @@ use Rattle.tcp_streams.proofs.Kept.{kept-joins, kept-opens, kept-strays, zip-at,
 use Rattle.tcp_streams.proofs.Past.{RecordsDescend-weaker, members-to_come, opening_at-kept, opening_at-opens}
 use Rattle.tcp_streams.proofs.Waits.{last-push}
 use Rattle.tcp_streams.proofs.Words.{All, All-cons, All-head, All-nil, All-push, All-tail, AreNumberedFrom, Carried}
-use Rattle.tcp_streams.proofs.Words.{Connection, Membership, map}
 use Rattle.tcp_streams.proofs.Words.{IsOpened, IsUnopened, List, None, Packet, RecordsDescend, Segment, [], ap}
 use Rattle.tcp_streams.proofs.Words.{arith, eq-eqb, false, get_or, is_opening, length, length-append}
 use Rattle.tcp_streams.proofs.Words.{members, opening_at, openings, opens, pair_of, past_after, past_of, payload_length}
 use Rattle.tcp_streams.proofs.Words.{payload_sum, refl, set, slice_get_within, sum_by-cons, sym, true, ℕ, ◌+◌, ◌++◌}
 use Rattle.tcp_streams.proofs.Words.{◌<◌, ◌^◌, ◌∙◌, ◌∷◌, ◌≡◌, ◌≤◌}
-use Rattle.tcp_streams.specs.Membership.{AreConnections, IsConnectionOf, belongings, is_answer}
-use Rattle.tcp_streams.specs.Membership.{openings as openings_among}
 use Rattle.tcp_streams.specs.code.Flows.{last_of}
-use Rattle.tcp_streams.specs.code.Opened.{HasJoined}
 use Rattle.tcp_streams.specs.code.Opened.{AreOpened, AreVisited, HasOpened, IsKept, IsNextOf, IsNextPacketOf, IsVisited}
 use Rattle.tcp_streams.specs.code.Opened.{sent_after, sent_of, sent_past, with_handed}
 use Rattle.tcp_streams.specs.code.Side.{Sent, segments_among}
@@ -281,25 +277,3 @@ module _ {V : Type 0} (after : Segment → List Sent → ℕ → V → Type 0) w
         visited = h;
       })
       is.opened.kept)
-
--- those that the records of their segments make are the capture's connections
-joined-is : (packets : List Packet) (capture : List ℕ) (o : Segment) (c : Connection)
-    → IsVisited HasJoined capture packets o c → IsConnectionOf (belongings packets) o c
-joined-is packets capture o c is =
-    let e = is.visited in
-    let seq = λ (s : Segment). s.seq in
-    record {
-      client = ap (λ (m : Membership). m.client) e;
-      server = ap (λ (m : Membership). m.server) e;
-      rec = ap (λ (m : Membership). m.rec) e;
-      client_isn = ap (λ (m : Membership). m.client_isn) e;
-      server_isn = ap (λ (m : Membership). m.server_isn) e ∙ ap (λ l. option_map seq (find (is_answer o) l)) is.are;
-      members_are = ap (λ (m : Membership). m.members) e ∙ ap (map (λ (s : Segment). s.rec)) is.are;
-    }
-
-pub visited-are : (capture : List ℕ) (packets : List Packet) (found : List Connection)
-    → AreVisited HasJoined capture packets found → AreConnections packets found
-visited-are capture packets found h =
-    zip-each (IsVisited HasJoined capture packets) (IsConnectionOf (belongings packets))
-    (openings_among (belongings packets)) found
-    (λ i d lt c is. joined-is packets capture (get_or (openings_among (belongings packets)) i d) c is) h

@@ -6,9 +6,6 @@ use Rattle.std.proofs.Common.{◌||◌}
 use Rattle.packet_heads.specs.declared.packets.Endpoint.{Endpoint}
 use Rattle.tcp_streams.specs.code.Pairs.{is_before}
 
-pub is_endpoint-refl : (e : Endpoint) → is_endpoint e e ≡ true
-is_endpoint-refl e = grind (arith, common_steps)
-
 pub is_pair-same : (p q : Pair) → is_pair p q ≡ true → p ≡ q
 is_pair-same p q h = grind (arith, common_steps)
 

@@ -1,6 +1,6 @@
 -- A flow is no longer than the payloads of its side: so both flows of a connection have room where all payloads have.
 use Rattle.tcp_streams.proofs.Words.{◌≡◌, ℕ, ◌<◌, ◌≤◌, List, [], ◌∷◌, ◌++◌, Option, None, Some, refl, sym, ◌∙◌, arith}
-use Rattle.tcp_streams.proofs.Words.{◌+◌, ◌-◌, ◌^◌, length, length-append, lt-ltb, map-append, ap, IfSome, IsSome}
+use Rattle.tcp_streams.proofs.Words.{◌+◌, ◌^◌, length, length-append, lt-ltb, map-append, ap, IfSome, IsSome}
 use Rattle.tcp_streams.proofs.Words.{false≢true, sum_by-cons}
 use Rattle.tcp_streams.proofs.Words.{Client, IsSame, is_endpoint, Segment, Server, Side, Source, Interval, at}
 use Rattle.tcp_streams.proofs.Words.{option_or, option_to_list}

@@ -1,5 +1,5 @@
 -- The flows of a connection's members are those of its segments as they are sent one by one.
-use Rattle.tcp_streams.proofs.Words.{◌≡◌, ℕ, List, [], ◌∷◌, Option, Some, refl, sym, ◌∙◌, ap, Bool, filter, map}
+use Rattle.tcp_streams.proofs.Words.{◌≡◌, ℕ, List, [], ◌∷◌, Some, refl, sym, ◌∙◌, ap, Bool, filter, map}
 use Rattle.tcp_streams.proofs.Words.{AreNumberedFrom, Client, Connection, Packet, Segment, Server, Side, is_sent_by}
 use Rattle.tcp_streams.proofs.Words.{past_of, segments_of, side_segments}
 use Rattle.std.proofs.Common.{find, option_map, subst}
@@ -8,7 +8,6 @@ use Rattle.tcp_streams.specs.{Flow.IsFlowFrom, Members.initial_of}
 use Rattle.tcp_streams.specs.Membership.{IsConnectionOf, belongings, is_answer, members}
 use Rattle.tcp_streams.specs.code.{SentFlows.initial_sent, Side.Sent, Side.segments_among}
 use Rattle.tcp_streams.specs.code.Taken.{is_by, sent_by}
-use Rattle.tcp_streams.specs.declared.flows.Flow.{Flow}
 use Rattle.tcp_streams.specs.laws.Flows.{FlowsAreThoseSent}
 use Rattle.tcp_streams.proofs.{Belongings.belonging-are, FlowLemmas.members-named, Lists.by_Bool}
 use Rattle.tcp_streams.proofs.Numbered.{Known-past_of}

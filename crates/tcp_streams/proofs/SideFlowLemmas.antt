@@ -1,6 +1,6 @@
 -- On what a flow's stage keeps: what an interval adds to it, and what leaves it.
 use Rattle.tcp_streams.proofs.Words.{◌≡◌, ℕ, ◌<◌, ◌≤◌, ◌⊎◌, inl, inr, [], ◌∷◌, Option, None, Some, refl, sym}
-use Rattle.tcp_streams.proofs.Words.{◌∙◌, arith, ◌+◌, ◌-◌, ap, IsSome, option_or, nat_lt, if◌then◌else◌, nat_tests}
+use Rattle.tcp_streams.proofs.Words.{◌∙◌, arith, ◌+◌, ◌-◌, IsSome, option_or, nat_lt, if◌then◌else◌, nat_tests}
 use Rattle.tcp_streams.proofs.Words.{none-some, false≢true, false, lt-ltb, le-ltb, Source, end_of_offsets, IsInterval}
 use Rattle.tcp_streams.proofs.Words.{at}
 use Rattle.tcp_streams.proofs.Words.{source_in, Interval}
@@ -12,7 +12,7 @@ use Rattle.tcp_streams.proofs.Lists.{by_lt, by_option}
 use Rattle.std.specs.{Cmp.nat_cmp_is, Ordering.is_eq, Ordering.is_gt, Ordering.is_lt}
 use Rattle.std.specs.{Ordering.nat_cmp, declared.cmp.Ordering.TheVariants.Equal}
 use Rattle.std.specs.declared.cmp.Ordering.TheVariants.{Greater, Less}
-use Rattle.std.proofs.{Common.max, Common.subst, lemmas.Bool.cases_eq}
+use Rattle.std.proofs.{Common.subst, lemmas.Bool.cases_eq}
 
 pub or-none : (p : Option Source) → option_or p None ≡ p
 or-none None = refl
@@ -105,18 +105,6 @@ module _ (F : ℕ → Option Source) (x : Interval) where
 
   above : (n o : ℕ) → n ≤ o → so_far F x n o ≡ F o
   above n o le = rw (le-ltb o n le) (or-none (F o))
-
-  -- where the interval begins, or the run ends if it does so later, nothing is added yet
-  pub so_far-start : (e low : ℕ) → ((o : ℕ) → o < e → IsSome (F o)) → low ≡ max x.from e → (o : ℕ)
-      → F o ≡ so_far F x low o
-  so_far-start e low covered is o =
-      by_lt o low
-      (λ _ lt. by_lt o e
-      (λ _ inside. sym (below low o lt ∙ or-left (F o) (at (x ∷ []) o) (covered o inside)))
-      (λ _ past.
-      let before : o < x.from = omega (arith, is, lt, past) in
-      sym (below low o lt ∙ ap (option_or (F o)) (at-before x o before) ∙ or-none (F o))))
-      (λ _ ge. sym (above low o ge))
 
   -- along an interval that is kept nothing is added
   pub so_far-held : (low e k : ℕ) (m : ℕ → Option Interval) (y : Interval) → AreKept e (so_far F x low) m

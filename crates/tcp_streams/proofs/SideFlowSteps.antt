@@ -7,7 +7,6 @@ use Rattle.tcp_streams.specs.{declared.side_flow.SideFlow.SideFlow}
 use Rattle.tcp_streams.specs.{declared.interval.Piece.Piece}
 use Rattle.tcp_streams.specs.code.SideFlow.{AllHold, AreKept, Follows, IsGrowth, IsSideFlow, intervals, kept_at}
 use Rattle.tcp_streams.specs.code.SideFlow.{run_end}
-use Rattle.tcp_streams.specs.code.SideFlow.{with_interval}
 use Rattle.tcp_streams.proofs.{Growth.or-left, IntervalLemmas.at-append, IntervalLemmas.at-in}
 use Rattle.tcp_streams.proofs.Lists.{by_lt, by_option}
 use Rattle.tcp_streams.proofs.RunLemmas.{Follows-push, run-beyond, run-covers, run_end-push}
@@ -77,10 +76,6 @@ run-within low (x ∷ xs) f le = run-within x.upto xs f.2 f.1.counts
 pub growth-within : (F : ℕ → Option Source) (low high : ℕ) (run : List Interval) → IsGrowth F low high run
     → low ≤ end_of_offsets → high ≤ end_of_offsets
 growth-within F low high run g le = omega (arith, run-within low run g.follows le, g.reaches)
-
-module _ (F : ℕ → Option Source) (e : ℕ) (covered : (o : ℕ) → o < e → IsSome (F o)) (x : Interval) where
-  pub still-covered : (o : ℕ) → o < e → IsSome (with_interval F x o)
-  still-covered o lt = rw (or-left (F o) (at (x ∷ []) o) (covered o lt)) (covered o lt)
 
 -- nothing is kept
 abbrev pub IsNoneKept : (ℕ → Option Interval) → Type 0

@@ -2,7 +2,7 @@
 use Rattle.tcp_streams.proofs.Words.{◌≡◌, ℕ, ◌<◌, ◌≤◌, true, false, List, [], ◌∷◌, ◌++◌, Option, None, Some, refl}
 use Rattle.tcp_streams.proofs.Words.{sym, ◌∙◌, arith, ap, append-nil, append_assoc, is_endpoint, Segment}
 use Rattle.tcp_streams.proofs.Words.{All-head, All-nil, All-tail, All-push, Server, Source, source}
-use Rattle.tcp_streams.proofs.Words.{◌+◌, ◌^◌, payload_sum, sum_by-cons}
+use Rattle.tcp_streams.proofs.Words.{◌^◌, payload_sum, sum_by-cons}
 use Rattle.tcp_streams.proofs.Words.{payload_length, option_or, if◌then◌else◌, none-some, false≢true, length}
 use Rattle.tcp_streams.proofs.Words.{le-ltb}
 use Rattle.std.proofs.Common.{subst}

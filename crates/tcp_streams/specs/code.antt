@@ -13,4 +13,3 @@ pub mod Standings
 pub mod Table
 pub mod Orderly
 pub mod Taken
-pub mod Walk

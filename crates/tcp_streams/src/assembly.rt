@@ -17,8 +17,7 @@ use crate::pieces::piece_of_member;
 use crate::side_flow::SideFlow;
 use crate::started_side::StartedSide;
 use audit_terms::Side;
-use input_output::Capture;
-use packet_heads::Packets;
+use packet_heads::Packet;
 use std::alloc::{AllocError, Global};
 
 /// The bytes that one side of a connection sent, as far as the capture shows them from the first one on
@@ -34,8 +33,8 @@ use std::alloc::{AllocError, Global};
 /// [`connections`]: crate::connections
 pub fn assemble<'a>(
     alloc: Global,
-    capture: &Capture<'a>,
-    packets: &Packets<'_>,
+    capture: &'a [u8],
+    packets: &[Packet],
     connection: &Connection,
     side: Side,
 ) -> Result<Flow<'a>, AllocError>
@@ -79,7 +78,7 @@ pub fn assemble<'a>(
 /// The flow of a side whose initial sequence number is known: its segments in any order, with overlaps and holes.
 fn flow_from<'a>(
     alloc: Global,
-    capture: &Capture<'a>,
+    capture: &'a [u8],
     of: &StartedSide<'_>,
 ) -> Result<Flow<'a>, AllocError>
     requires { IsOfCapture capture.now of.now }
@@ -110,7 +109,7 @@ fn flow_from<'a>(
 
 /// Appends the bytes of intervals to the pieces of the capture that were found.
 fn push_run<'a>(
-    capture: &Capture<'a>,
+    capture: &'a [u8],
     run: &[Piece<()>],
     pieces: &mut Vec<&'a [u8]>,
 ) -> Result<(), AllocError>

@@ -38,7 +38,7 @@ impl<V: ConnectionVisitor> ConnectionStage<V> {
 
     /// What is kept of each connection, in order of opening, and the strays, in order of first sight.
     pub fn into_parts(self) -> (Vec<V>, Vec<Stray>)
-        // Of each opening of a capture the visitor was handed exactly the segments that belong to it, in order, with
+        // The visitor of each opening of a capture was handed exactly the segments that belong to it, in order, with
         // their payloads as they stand in the capture.
         ensures opened { (capture : List ℕ) (handed : List Handed) → HasOpened V.after handed self
             → ArePayloadsOf capture handed → AreVisited V.after capture (packets_among handed) result.0.items }

@@ -1,6 +1,3 @@
-ghost use Rattle.std.specs.Prelude.{◌≡◌, ℕ};
-ghost use Rattle.tcp_streams.specs.Arrivals.{Rises};
-
 use std::alloc::Global;
 
 /// When bytes of a flow were there: each byte arrives with the first of its flow's arrivals whose `upto` is above its
@@ -33,9 +30,7 @@ pub struct Flow<'a> {
 }
 
 impl<'a> Flow<'a> {
-    ghost use Rattle.std.specs.Prelude.{◌≡◌, [], None, false, length};
-    ghost use Rattle.tcp_streams.specs.code.Orderly.{IsOrderly};
-    ghost use Rattle.tcp_streams.specs.Bytes.{bytes_of};
+    ghost use Rattle.std.specs.Prelude.{◌≡◌, [], None, false};
 
     /// The flow of a side whose initial sequence number is not known.
     pub(crate) fn unknown(alloc: Global) -> Flow<'a>
@@ -50,23 +45,5 @@ impl<'a> Flow<'a> {
             arrivals: Vec::new(alloc),
             gap: None,
         }
-    }
-
-    /// How many bytes the flow has.
-    pub fn length(&self) -> u64
-        requires { IsOrderly self.now }
-        ensures { result ≡ length (bytes_of self.now) }
-    {
-        end_of(&self.arrivals)
-    }
-}
-
-/// The offset at which arrivals end.
-pub(crate) fn end_of(arrivals: &[Arrival]) -> u64
-    ensures { (high : ℕ) → Rises 0 0 arrivals.now high → result ≡ high }
-{
-    match arrivals.last() {
-        Some(last) => last.upto as u64,
-        None => 0,
     }
 }

@@ -1,6 +1,5 @@
 ghost use Rattle.std.specs.Prelude.{◌≡◌, ◌+◌, ◌-◌, ◌<◌, ◌≤◌, ◌++◌, length, OnOk};
 
-use input_output::Capture;
 use std::alloc::AllocError;
 
 /// The first offset that does not count: a flow is shorter than this.
@@ -25,7 +24,7 @@ impl Interval {
     /// Appends the interval's bytes to the pieces that were found.
     pub fn push_bytes<'a>(
         &self,
-        capture: &Capture<'a>,
+        capture: &'a [u8],
         found: &mut Vec<&'a [u8]>,
     ) -> Result<(), AllocError>
         requires { IsInside (length capture.now) self.now }
@@ -33,7 +32,9 @@ impl Interval {
             ++ slice_range capture.now self.now.index (self.now.index + width self.now)) }
     {
         let index = self.index as usize;
-        capture.slices(index, index + (self.upto - self.from) as usize, found)
+        let end = index + (self.upto - self.from) as usize;
+        found.push(&capture[index..end])?;
+        Ok(())
     }
 
     /// The stretch of the interval between two offsets.

@@ -7,16 +7,12 @@
 //!   each segment with its payload to a [`ConnectionVisitor`], one for each opening. At the end each was handed exactly
 //!   the segments that belong to its opening, in order, with their payloads as they stand in the capture
 //!   (`IsVisited` of `specs/code/Opened.antt`).
-//! - [`ConnectionWalk`] finds what [`connections`] does while the capture is read: it visits the packets of the bytes
-//!   that it is fed (`input_output::FrontWalk`), keeps them, and makes a [`Connection`] of each opening by such a
-//!   stage. Its `finish` has the clauses of `packet_heads::PacketWalk::finish` and of [`connections`].
 //! - [`assemble`] returns a side's bytes from its initial sequence number on (RFC 9293, 3.4), whatever order, loss or
 //!   repetition the capture shows. `IsFlow` of `specs/Flow.antt` is the longest covered run from offset 0: its bytes,
-//!   the record by which each byte was there, and a gap where bytes are missing before later ones. Of several records
-//!   that cover an offset the first wins (`source` of `specs/Sequence.antt`), as a receiver discards bytes that it has.
-//!   A side whose initial number was not captured has an empty flow, which always succeeds. No byte is copied: a flow's
-//!   pieces are slices of the capture, and its bytes (`bytes_of` of `specs/Bytes.antt`) are these joined. A payload
-//!   that crosses two chunks of the capture is two pieces.
+//!   the record by which each byte was there, and a gap where bytes are missing before later ones. Where several
+//!   records cover an offset, the first wins (`source` of `specs/Sequence.antt`), as a receiver discards bytes that it
+//!   has. A side whose initial number was not captured has an empty flow, which always succeeds. No byte is copied: a
+//!   flow's pieces are slices of the capture, and its bytes (`bytes_of` of `specs/Bytes.antt`) are these joined.
 //! - A flow is orderly, as frame reading requires: shorter than 2^31, its arrivals rising in offset and record, times
 //!   below 2^63. It is no longer than the payloads of its side.
 //! - [`laws`]: a source has one flow; each payload byte has the offset that the RFC's arithmetic gives it; all flows
@@ -60,9 +56,7 @@ mod side_stage;
 mod standings;
 mod started_side;
 mod table;
-mod taken;
 mod waiting;
-mod walk;
 pub mod worked_examples;
 
 pub use assembly::assemble;
@@ -73,4 +67,3 @@ pub use flows::{Arrival, Flow};
 pub use growth_visitor::GrowthVisitor;
 pub use members::{Connection, Connections, Stray};
 pub use membership::connections;
-pub use walk::ConnectionWalk;

@@ -1,7 +1,6 @@
 ghost use Rattle.std.specs.Prelude.{◌≡◌, ◌<◌, IfOk, OnOk};
 ghost use Rattle.tcp_streams.specs.code.Past.{answers};
 
-use crate::connection_visitor::ConnectionVisitor;
 use audit_terms::Side;
 use packet_heads::{Endpoint, Segment};
 use std::alloc::{AllocError, Global};
@@ -80,25 +79,6 @@ impl Connection {
             self.server_isn = Some(segment.seq);
         }
         Ok(())
-    }
-}
-
-impl ConnectionVisitor for Connection {
-    ghost use Rattle.tcp_streams.specs.code.Opened.{HasJoined};
-
-    ghost after = { HasJoined };
-
-    fn begin(alloc: Global, opening: &Segment) -> Result<Connection, AllocError> {
-        Connection::of(alloc, opening)
-    }
-
-    fn take(
-        &mut self,
-        _alloc: Global,
-        segment: &Segment,
-        _payload: &[u8],
-    ) -> Result<(), AllocError> {
-        self.join(segment)
     }
 }
 

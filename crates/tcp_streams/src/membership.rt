@@ -9,7 +9,7 @@ ghost use Rattle.packet_heads.specs.declared.packets.Segment.{Segment as Shown};
 use crate::members::{Connection, Connections};
 use crate::table::{Table, Turn};
 use input_output::TableHash;
-use packet_heads::{Packets, Segment};
+use packet_heads::{Packet, Segment, segment_at};
 use std::alloc::{AllocError, Global};
 
 /// Says which segments belong to which opening, and which to none.
@@ -22,7 +22,7 @@ use std::alloc::{AllocError, Global};
 pub fn connections(
     alloc: Global,
     hash: TableHash,
-    packets: &Packets<'_>,
+    packets: &[Packet],
 ) -> Result<Connections, AllocError>
     requires few { length packets.now < 2 ^ 32 }
     requires numbered { AreNumberedFrom 1 packets.now }
@@ -42,7 +42,7 @@ pub fn connections(
 /// Takes all packets into a table, and their segments into the connections that these belong to.
 fn take_in(
     alloc: Global,
-    packets: &Packets<'_>,
+    packets: &[Packet],
     table: &mut Table,
     opened: &mut Vec<Connection>,
 ) -> Result<(), AllocError>
@@ -54,7 +54,7 @@ fn take_in(
         × AreConnectionsOf (past_of packets.now) opened.new.items) }
 {
     for index in 0..packets.len() {
-        if let Some(segment) = packets.segment(index) {
+        if let Some(segment) = segment_at(packets, index) {
             add(alloc, table, opened, segment)?;
         }
     }

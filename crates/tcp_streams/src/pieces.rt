@@ -5,7 +5,7 @@ ghost use Rattle.tcp_streams.specs.Members.{is_sent_by};
 use crate::interval::{END_OF_OFFSETS, Interval};
 use crate::started_side::StartedSide;
 use audit_terms::Side;
-use packet_heads::Segment;
+use packet_heads::{Segment, segment_at};
 
 /// Sequence numbers wrap at this number (RFC 9293, 3.4).
 const MODULUS: u64 = 0x1_0000_0000;
@@ -15,7 +15,7 @@ pub(crate) fn piece_of_member(of: &StartedSide<'_>, member: u32) -> Option<Inter
     requires { PayloadsFit of.now.packets.now }
     ensures { result ≡ member_piece of.now member }
 {
-    let segment = of.packets.segment(member.saturating_sub(1) as usize)?;
+    let segment = segment_at(of.packets, member.saturating_sub(1) as usize)?;
     if is_sent_by(of, segment) {
         piece_of(of.initial_number, segment)
     } else {

@@ -15,7 +15,7 @@ use audit_terms::Side;
 use packet_heads::Segment;
 use std::alloc::{AllocError, Global};
 
-/// A side whose initial sequence number is known. Of its segments' bytes it keeps those alone that lie behind a hole.
+/// A side whose initial sequence number is known. It keeps only those bytes of its segments that lie behind a hole.
 #[derive(Drop)]
 pub(crate) struct SideStage {
     pub side: Side,

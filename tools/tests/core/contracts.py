@@ -123,7 +123,7 @@ class Sources:
         return self.reached[one]
 
     def called_from(self, function: Key) -> set[Key]:
-        """The functions to which calls lead from one. Of several with one name in a crate, all are taken."""
+        """The functions to which calls lead from one. If a crate has several of one name, all are taken."""
         called: set[Key] = set()
         front = [function]
         while front:

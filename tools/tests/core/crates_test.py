@@ -75,7 +75,7 @@ class Memory(unittest.TestCase):
     # By their files: what opens the block of the place, and the line that tells it.
     PLACES = {
         "h2audit/src/auditing.rt": [
-            "Ok(walk) => match Capture::of_slice(..) { Err(_) => Err(AuditFault::OutOfMemory),",
+            "Ok(mut walk) => match feed_rest(..) { Err(_) => Err(AuditFault::OutOfMemory),",
             "Ok((met, cut)) => match report_of_found(..) { Err(_) => Err(AuditFault::OutOfMemory),",
             "match ended { Err(PcapFault::OutOfMemory) => Err(AuditFault::OutOfMemory),",
             "Ok((met, cut)) => match report_of_listed(..) { Err(_) => Err(AuditFault::OutOfMemory),",
@@ -90,13 +90,9 @@ class Memory(unittest.TestCase):
             "match words { Err(error) if error.kind() == ErrorKind::OutOfMemory => Err(AllocError),",
             "match opened { Err(error) if error.kind() == ErrorKind::OutOfMemory => Err(AuditFault::OutOfMemory),",
         ],
-        "h2audit/src/reading.rt": ["match read { Err(ReadFault::OutOfMemory) => Err(AuditFault::OutOfMemory),"],
+        "h2audit/src/reading.rt": ["match meet(..) { Err(ReadFault::OutOfMemory) => Err(AuditFault::OutOfMemory),"],
         "input_output/src/capture_reader.rt": ["if had.is_err() { return Err(ReadFault::OutOfMemory);"],
-        "input_output/src/kept_bytes.rt": [
-            "let Ok(capture) = Capture::with_last(alloc, self.chunks.as_slice(), &[]) else { return Err(AllocError);"
-        ],
-        "packet_heads/src/walk.rt": ["match feed_rest(..) { Err(_) => Err(PcapFault::OutOfMemory),"],
-        "pcap_records/src/reading.rt": ["Ok(format) => match all_of(..) { Err(_) => Err(PcapFault::OutOfMemory),"],
+        "pcap_records/src/reading.rt": ["match feed_rest(..) { Err(_) => Err(PcapFault::OutOfMemory),"],
         "report_pages/src/report.rt": ["match self.write_all(..) { Err(_) => Err(AllocError),"],
         "split_program/src/command.rt": ["if kind == ErrorKind::OutOfMemory { return Err(Failure::OutOfMemory);"],
         "split_program/src/failure.rt": [

@@ -60,7 +60,7 @@ CHANGES = [
 ]
 
 
-# The same of the splitter.
+# Such changes of the splitter's definitions.
 SPLIT_CHANGES = [
     ("capture_parts/specs/Pair.antt", "take 82 packet", "take 40 packet"),
     ("capture_parts/specs/Pair.antt", "/ 2 ^ 32", "/ 2 ^ 31"),

@@ -1,9 +1,9 @@
 /* Refuses one call of a program, for refusals_test.py: LD_PRELOAD names this library, REFUSE says "KIND N".
  *
- * The Nth call of KIND fails: growth (malloc, realloc), thread (pthread_create), read, write. Of read-one and write-one
- * the Nth moves one byte, and of write-none it takes none. With drip each write takes 3 bytes, and the Nth fails. Of
- * late-growth each growth fails that comes after N writes on standard output. Where the call is met, the file MET is
- * made.
+ * The Nth call of KIND fails: growth (malloc, realloc), thread (pthread_create), read, write. With read-one and
+ * write-one the Nth call moves one byte, and with write-none it takes none. With drip each write takes 3 bytes, and the
+ * Nth fails. With late-growth each growth fails that comes after N writes on standard output. Where the call is met, the
+ * file MET is made.
  */
 #define _GNU_SOURCE
 #include <dlfcn.h>

@@ -26,9 +26,10 @@ SETTINGS, HEADERS = frame_of(["SETTINGS"]), frame_of(["HEADERS", "1"])
 UNMATCHED = frame_of(["ACK"])
 
 CONNECTIONS = 210_000
-# Of each long connection so many records of requests: two of these have more frames than the rounds take at once.
+# How many long connections, records of requests in each, and requests in a record: two such connections have more
+# frames than the rounds take at once.
 LONG, RECORDS, REQUESTS = 4, 320, 7000
-# Of one connection.
+# How many streams one connection has.
 STREAMS = 700_000
 # What one connection brings, in DATA frames of 16,384 bytes and in records of three.
 BULK = 1200

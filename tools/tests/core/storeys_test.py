@@ -161,8 +161,6 @@ class Depth(unittest.TestCase):
 
     # The folder of the proof of calls that go round, and how deep they go.
     BOUNDS = {
-        "audit_core/rows/+idle_rows": "as there are frames: one_pass, which tests alone call",
-        "audit_core/rows/+meet_all": "halves of the streams",
         "audit_rounds/batch/+by_shares+fn-by_shares-join+arg2+fn-by_shares-join+arg3": "the workers, 64 at most",
         "audit_rounds/prepared/+fn-prepare_each-join+arg2+fn-prepare_each-join+arg3+prepare_each": "the workers",
         "report_pages/filling/+pages": "the pages, one for each worker",

@@ -1,16 +1,11 @@
 -- No two findings of a connection share place and side, and no two errors of the connection share a place.
-use Rattle.std.specs.Prelude.{◌≡◌, ◌≢◌, true, List, [], ◌∷◌}
-use Rattle.std.specs.List.{AllByRecursion}
+use Rattle.std.specs.Prelude.{◌≡◌, ◌≢◌, true, List}
 use Rattle.audit_terms.specs.declared.frames.Frame.{Frame}
 use Rattle.audit_terms.specs.declared.findings.Finding.{Finding}
 use Rattle.audit_terms.specs.Finding.{stops}
 use Rattle.audit_terms.specs.code.runs.Orderly.{IsOrderly}
 use Rattle.audit_terms.specs.Pass.{full}
-
--- each element stands so to every later one
-abbrev pub EachPair : {X : Type 0} → (X → X → Type 0) → List X → Type 0
-EachPair related [] = Unit {0}
-EachPair related (x ∷ xs) = AllByRecursion (related x) xs × EachPair related xs
+use Rattle.audit_terms.specs.laws.Pairs.{EachPair}
 
 -- two findings that differ in place or in side
 abbrev pub AreApart : Finding → Finding → Type 0

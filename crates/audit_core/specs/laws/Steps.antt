@@ -8,7 +8,7 @@ use Rattle.audit_terms.specs.declared.items.Step.{Step}
 use Rattle.audit_terms.specs.code.runs.Orderly.{IsOrderly}
 use Rattle.audit_terms.specs.code.runs.Changes.{changes_of}
 use Rattle.audit_terms.specs.code.runs.Streams.{frames_of, steps_of}
-use Rattle.audit_core.specs.laws.Apart.{EachPair}
+use Rattle.audit_terms.specs.laws.Pairs.{EachPair}
 
 -- each number is below every later one
 abbrev pub AreRising : List ℕ → Type 0

@@ -49,10 +49,6 @@ abbrev pub laid_out : (connection : ℕ) → List (List Block) → List Connecti
 laid_out connection [] = []
 laid_out connection (blocks ∷ later) = blocks_of_connection connection blocks ++ laid_out (connection + 1) later
 
--- the items of each connection
-abbrev pub wholes : List Block → List (List Item)
-wholes connections = map items_in connections
-
 -- the items of connections, the first of number 0, in blocks
 pub record AreBlocksOf (wholes : List (List Item)) (blocks : List ConnectionBlock) : Type 0 where
   pub cuts : List (List Block)

@@ -1,6 +1,6 @@
 -- The plan of the round in which blocks are gone through.
 use Rattle.std.specs.Prelude.{◌≡◌, ℕ, ◌+◌, ◌<◌, ◌==◌, Bool, if◌then◌else◌, All, List, [], ◌∷◌, ◌++◌, map, slice_get}
-use Rattle.std.specs.Prelude.{Option, Some}
+use Rattle.std.specs.Prelude.{Option, Some, length, ⊤}
 use Rattle.audit_terms.specs.declared.connection_state.ConnectionState.{ConnectionState}
 use Rattle.audit_terms.specs.declared.findings.Finding.{Finding}
 use Rattle.audit_terms.specs.declared.frames.Frame.{Frame}
@@ -12,9 +12,13 @@ use Rattle.audit_terms.specs.code.runs.Look.{Asked}
 use Rattle.conn_scan.specs.code.Items.{items_in}
 use Rattle.stop_desk.specs.code.Board.{Job, findings_of_jobs}
 use Rattle.stop_desk.specs.code.Heeding.{RunLooks}
+use Rattle.stop_desk.specs.code.Settling.{HasSettled}
+use Rattle.stop_desk.specs.declared.{parts.Part.Part, settling.Settled.Settled}
 use Rattle.audit_rounds.specs.declared.connection_blocks.ConnectionBlock.{ConnectionBlock}
 use Rattle.audit_rounds.specs.declared.block_plans.ReadyBlock.{ReadyBlock}
+use Rattle.audit_rounds.specs.declared.per_connection.PerConnection.{PerConnection}
 use Rattle.audit_rounds.specs.code.Blocks.{IsReady, after_of, before_of}
+use Rattle.audit_rounds.specs.code.PerConnection.{wholes}
 
 -- to sum a block finds nothing
 abbrev pub sum_job : ConnectionBlock → Job
@@ -65,3 +69,13 @@ pub record IsPlan (frames_shown : Bool) (connections : ℕ) (finds : ℕ → Lis
   pub ready : AreReady plan
   pub within : All (λ (one : ReadyBlock). one.connection < connections) plan
   pub of_each : (n : ℕ) → findings_of_jobs n (map (block_job frames_shown) plan) ≡ finds n
+
+-- the round over the blocks of connections, up to where each is known to stop, is settled
+pub record BlocksHaveSettled (frames_shown : Bool) (connections : List PerConnection) (settled : Settled (Unit {0}))
+    : Type 0
+  where
+    pub plan : List ReadyBlock
+    pub planned : IsPlan frames_shown (length connections) (shown_at frames_shown 0 (wholes connections)) plan
+    pub done : HasSettled (λ (job : ℕ) (upto : Option ℕ) (made : Unit {0}). ⊤) (map (block_job frames_shown) plan)
+        (map (λ (one : PerConnection). one.stop) connections) settled
+    pub inside : All (λ (part : Part (Unit {0})). part.connection < length connections) settled.parts.items

@@ -15,20 +15,20 @@ use Rattle.audit_rounds.specs.code.Streams.{IsRow, AreOpenedUpTo, RowsLook, rows
 -- the streams of a connection that may be gone through
 pub record IsReady (streams : Streams) : Type 0 where
   pub changes : AreOrderly streams.changes
-  pub rows : All (IsRow streams) streams.split.now.rows.items
-  pub counted : length streams.split.now.rows.items < 2 ^ 32
+  pub rows : All (IsRow streams) streams.of.now.split.rows.items
+  pub counted : length streams.of.now.split.rows.items < 2 ^ 32
 
 -- a range of the rows of a connection that is there
 pub record IsJobOf (connections : List Streams) (job : StreamJob) : Type 0 where
   pub connection : job.connection < length connections
   pub rising : job.from ≤ job.to
   pub within : (streams : Streams) → slice_get connections job.connection ≡ Some streams →
-      job.to ≤ length streams.split.now.rows.items
+      job.to ≤ length streams.of.now.split.rows.items
 
 -- what is said of the rows of a job
 abbrev pub of_rows : {X : Type 0} → (Streams → List StreamRow → List X) → List Streams → StreamJob → List X
 of_rows said connections job =
-    option_map_or (λ (streams : Streams). said streams (between job.from job.to streams.split.now.rows.items))
+    option_map_or (λ (streams : Streams). said streams (between job.from job.to streams.of.now.split.rows.items))
     (slice_get connections job.connection) []
 
 -- the job, with what its streams show
@@ -48,7 +48,7 @@ abbrev pub JobLooks : (frames_shown : Bool) → List Streams → List StreamJob 
     (upto : Option ℕ) → Type 0
 JobLooks frames_shown connections plan number asked upto = (job : StreamJob) (streams : Streams) →
     slice_get plan number ≡ Some job → slice_get connections job.connection ≡ Some streams →
-    RowsLook frames_shown streams (between job.from job.to streams.split.now.rows.items) asked upto
+    RowsLook frames_shown streams (between job.from job.to streams.of.now.split.rows.items) asked upto
 
 -- a job of this connection
 abbrev pub job_at : (connection : ℕ) → ℕ × ℕ → StreamJob
@@ -58,5 +58,5 @@ job_at connection range = record { connection = connection; from = range.0; to =
 abbrev pub plan_from : (count : ℕ) → (connection : ℕ) → List Streams → List StreamJob
 plan_from count connection [] = []
 plan_from count connection (streams ∷ rest) =
-    map (job_at connection) (groups (length streams.split.now.rows.items) count)
+    map (job_at connection) (groups (length streams.of.now.split.rows.items) count)
     ++ plan_from count (connection + 1) rest

@@ -27,7 +27,7 @@ shown_of frames_shown frames stream =
 
 -- the frames of a row
 abbrev pub row_frames : Streams → StreamRow → List Frame
-row_frames streams row = frames_at streams.frames.now (row_positions streams.split.now row)
+row_frames streams row = frames_at streams.of.now.frames.now (row_positions streams.of.now.split row)
 
 -- what is shown of the stream of a row
 abbrev pub row_shown : (frames_shown : Bool) → Streams → StreamRow → List Finding
@@ -48,9 +48,10 @@ rows_opened streams rows = flat_map (λ (row : StreamRow). option_to_list (row_o
 
 -- a row whose stream may be gone through
 pub record IsRow (streams : Streams) (row : StreamRow) : Type 0 where
-  pub range : IsRange streams.split.now row
+  pub range : IsRange streams.of.now.split row
   pub in_range : row.stream < 2 ^ 31
-  pub within : All (λ (position : ℕ). position < length streams.frames.now) (row_positions streams.split.now row)
+  pub within : All (λ (position : ℕ). position < length streams.of.now.frames.now)
+      (row_positions streams.of.now.split row)
   pub orderly : IsOrderly (row_frames streams row)
   pub acknowledged : AreAcknowledged (row_frames streams row) streams.changes
 

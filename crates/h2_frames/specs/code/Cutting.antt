@@ -4,12 +4,10 @@ use Rattle.std.specs.declared.alloc.AllocError.{AllocError}
 use Rattle.tcp_streams.specs.declared.flows.Flow.{Flow}
 use Rattle.tcp_streams.specs.Bytes.{bytes_of}
 use Rattle.h2_frames.specs.declared.cuts.Cut.{Cut}
-use Rattle.h2_frames.specs.declared.walk.FrameWalk.{FrameWalk}
 use Rattle.h2_frames.specs.Cut.{IsCut}
 use Rattle.h2_frames.specs.Preface.{BeginsWithPreface}
 use Rattle.h2_frames.specs.code.Orderly.{HasOrderlyFrames}
 use Rattle.h2_frames.specs.code.SameCut.{IsSameCut}
-use Rattle.h2_frames.specs.code.Walk.{IsFreshWalk}
 
 -- it is the cut of the two flows, and there is no other; its frames are in range, their numbers rising; memory can be
 -- wanting only where there are bytes to cut into frames
@@ -19,7 +17,6 @@ pub record IsFoundCut (client server : Flow) (found : Result Cut AllocError) : T
   pub orderly : IfOk found HasOrderlyFrames
   pub memory : OnErr found (IsTrue server.started × (rest : List ℕ) × BeginsWithPreface (bytes_of client) rest)
 
--- all frames of a walk that none was taken of, and the tails
-abbrev pub IsAllOf : FrameWalk → Result Cut AllocError → Type 0
-IsAllOf walk found = (client server : Flow) → IsFreshWalk client server walk
-    → IfOk found (λ cut. IsCut client server cut × HasOrderlyFrames cut)
+-- it is the cut of the two flows, and its frames are orderly
+abbrev pub IsOrderlyCut : (client server : Flow) → Cut → Type 0
+IsOrderlyCut client server cut = IsCut client server cut × HasOrderlyFrames cut

@@ -18,3 +18,7 @@ abbrev pub IsGreeted : (bytes rest : List ℕ) → Greeting → Type 0
 IsGreeted bytes rest (CutShort n) = (n < 24) × (bytes ≡ take n preface) × (rest ≡ [])
 IsGreeted bytes rest Other = Differs bytes
 IsGreeted bytes rest Whole = BeginsWithPreface bytes rest
+
+-- the bytes begin so
+abbrev pub IsBeginning : List ℕ → Greeting → Type 0
+IsBeginning bytes greeting = (rest : List ℕ) × IsGreeted bytes rest greeting

@@ -3,9 +3,13 @@ use Rattle.std.specs.Prelude.{◌≡◌, ℕ, ◌+◌, ◌*◌, ◌<◌, ◌^◌
 use Rattle.audit_terms.specs.Frame.{promised_in}
 use Rattle.audit_terms.specs.code.runs.Orderly.{IsInRange, IsOrderly}
 use Rattle.audit_terms.specs.declared.frames.Frame.{Frame}
-use Rattle.h2_frames.specs.code.Walk.{HaveNumbersFrom}
 use Rattle.h2_frames.specs.declared.numbering.Numbering.{Numbering}
 use Rattle.h2_frames.specs.declared.spelling.Spelled.{Spelled}
+
+-- the frames have the numbers from this one on, one after the other
+abbrev pub HaveNumbersFrom : (number : ℕ) → List Frame → Type 0
+HaveNumbersFrom number [] = Unit {0}
+HaveNumbersFrom number (frame ∷ later) = (frame.number ≡ number) × HaveNumbersFrom (number + 1) later
 
 -- what the numbers of a frame are below, but its own
 pub record Fits (s : Spelled) : Type 0 where

@@ -1,8 +1,6 @@
 -- Frames of two sides, each side's in order, put in order by what stands first. No public clause cites this.
-use Rattle.std.specs.Prelude.{Bool, true, false, List, [], ◌∷◌, if◌then◌else◌}
+use Rattle.std.specs.Prelude.{List, [], ◌∷◌, if◌then◌else◌}
 use Rattle.h2_frames.specs.declared.side_frames.SideFrame.{SideFrame}
-use Rattle.h2_frames.specs.declared.unread.Next.{Next}
-use Rattle.h2_frames.specs.declared.unread.Next.TheVariants.{Read}
 use Rattle.h2_frames.specs.CaptureOrder.{comes_after}
 
 -- the first frame of one side, and how its later ones go with the other's
@@ -14,9 +12,3 @@ merged_with x later (y ∷ ys) = if comes_after x y then y ∷ merged_with x lat
 abbrev pub merged : (client server : List SideFrame) → List SideFrame
 merged [] ys = ys
 merged (x ∷ xs) ys = merged_with x (merged xs) ys
-
--- does the server's next frame come before the client's?
-abbrev pub is_server_first : (client server : Next) → Bool
-is_server_first (Read x) (Read y) = comes_after x y
-is_server_first (Read x) _ = false
-is_server_first _ server = true

@@ -1,11 +1,10 @@
 -- The jobs of the round over connections: one for each, which finds nothing.
 use Rattle.std.specs.List.{AllZip, range_with_len}
-use Rattle.std.specs.Prelude.{◌≡◌, ℕ, ◌^◌, ◌<◌, ◌≤◌, Bool, false, List, [], length, map, All, IfSome, IsTrue, Option}
+use Rattle.std.specs.Prelude.{◌≡◌, ℕ, ◌^◌, ◌<◌, Bool, List, [], length, map, All, IfSome, IsTrue, Option}
 use Rattle.audit_report.specs.FlowLine.{extents_of}
 use Rattle.audit_report.specs.Stalls.{stalls}
 use Rattle.audit_report.specs.declared.audited.Audited.{Audited}
 use Rattle.audit_terms.specs.code.runs.Orderly as runs
-use Rattle.audit_terms.specs.declared.sides.Side.{Side}
 use Rattle.audit_terms.specs.declared.sides.Side.TheVariants.{Client, Server}
 use Rattle.audit_terms.specs.declared.sides.Sides.{Sides}
 use Rattle.h2_frames.specs.Cut.{IsCut, IsHttp2}
@@ -55,16 +54,15 @@ KeepsFound (outcome.Found made) found = AreFramesOf made.value found
 KeepsFound _ found = ⊥
 
 -- this was found in the flows
-pub record IsFoundIn (client server : Flow) (made : FoundFrames) : Type 0 where
+pub record IsFoundIn (frames_shown : Bool) (client server : Flow) (made : FoundFrames) : Type 0 where
   pub found : FoundConnection
-  pub of_flows : IsFoundOf client server found
+  pub of_flows : IsFoundOf frames_shown client server found
   pub kept : AreFramesOf made found
 
 -- what an outcome keeps of two flows, before anything is found in all frames
 abbrev pub IsHeldBy : (frames_shown : Bool) → (client server : Flow) → Outcome → Type 0
-IsHeldBy frames_shown client server (outcome.Quiet quiet) = (frames_shown ≡ false) × IsQuietOf client server quiet
-IsHeldBy frames_shown client server (outcome.Found found) =
-    (frames_shown ≡ false) × IsFoundIn client server found.value
+IsHeldBy frames_shown client server (outcome.Quiet quiet) = IsQuietOf frames_shown client server quiet
+IsHeldBy frames_shown client server (outcome.Found found) = IsFoundIn frames_shown client server found.value
 IsHeldBy frames_shown client server (outcome.Audited audited) =
     IsTrue server.started × IsHttp2 client server audited.value.frames.items audited.value.tails
     × runs.IsOrderly audited.value.frames.items
@@ -106,10 +104,10 @@ flow_job number = record { connection = number; findings = [] }
 abbrev pub flow_jobs : List HeldFlows → List Job
 flow_jobs held = map flow_job (range_with_len 0 (length held))
 
--- what is told at once of flows of which this is held, if it is: where credits are not shown
+-- what is told at once of flows of which this is held, if it is
 abbrev pub IsMadeOf : (frames_shown : Bool) → HeldFlows → Option Outcome → Type 0
 IsMadeOf frames_shown held made = IfSome made (λ (o : Outcome).
-    (frames_shown ≡ false) × ((client server : Flow) → IsCut client server held.cut → IsHeldBy false client server o))
+    (client server : Flow) → IsCut client server held.cut → IsHeldBy frames_shown client server o)
 
 abbrev pub AreMadeOf : (frames_shown : Bool) → List HeldFlows → List (Part (Option Outcome)) → Type 0
 AreMadeOf frames_shown = AllZip (λ (held : HeldFlows) (part : Part (Option Outcome)).

@@ -1,6 +1,6 @@
 -- Captures whose packets are met as they come, and connections whose segments are.
 use Rattle.std.specs.List.{AllZip}
-use Rattle.std.specs.Prelude.{◌≡◌, ℕ, Bool, false, List, [], ◌∷◌, map, Option, None, Some, IfSome, Result, Ok, Err}
+use Rattle.std.specs.Prelude.{◌≡◌, ℕ, Bool, List, [], ◌∷◌, map, Option, None, Some, IfSome, Result, Ok, Err}
 use Rattle.audit_report.specs.code.Packets.{HasCounted}
 use Rattle.audit_report.specs.declared.headings.SectionHeading.{SectionHeading}
 use Rattle.packet_heads.specs.code.Handed.{Handed, packets_among}
@@ -74,15 +74,15 @@ pub record IsToldOfOpening
   pub flows : (connection : Connection) → IsConnectionOf (belongings packets) opening connection
       → IsToldFlows frames_shown capture packets connection told
 
--- all is told of two flows where credits are not shown: no frame is left to be audited
-pub record IsToldWhole (client server : Flow) (told : Told) : Type 0 where
-  pub flows : IsToldOfFlows false client server told
+-- all is told of two flows: no frame is left to be audited
+pub record IsToldWhole (frames_shown : Bool) (client server : Flow) (told : Told) : Type 0 where
+  pub flows : IsToldOfFlows frames_shown client server told
   pub whole : frames_of told.outcome ≡ []
 
 -- so it is of the connection that a SYN opened
-pub record IsWholeOfOpening (capture : List ℕ) (packets : List Packet) (opening : Segment) (told : Told)
-    : Type 0 where
-  pub told_of : IsToldOfOpening false capture packets opening told
+pub record IsWholeOfOpening
+    (frames_shown : Bool) (capture : List ℕ) (packets : List Packet) (opening : Segment) (told : Told) : Type 0 where
+  pub told_of : IsToldOfOpening frames_shown capture packets opening told
   pub whole : frames_of told.outcome ≡ []
 
 -- what the first line of its section says of it

@@ -77,10 +77,4 @@ impl Options {
     {
         self.frames_shown
     }
-    /// Whether a capture is audited as it is read, and let go of: one worker does so where no credits are shown.
-    pub(crate) fn audits_as_read(&self) -> bool
-        ensures { IsTrue result → self.now.frames_shown ≡ false }
-    {
-        self.workers == 1 && !self.frames_shown
-    }
 }

@@ -1,5 +1,5 @@
 -- How the bytes of a capture are read, and how that fails.
-use Rattle.std.specs.Prelude.{◌≡◌, ℕ, ◌+◌, ◌^◌, ◌<◌, ◌≤◌, ◌⊎◌, List, [], Option, Some, None, Result}
+use Rattle.std.specs.Prelude.{◌≡◌, ℕ, ◌+◌, ◌^◌, ◌<◌, ◌≤◌, ◌⊎◌, List, Option, Result}
 use Rattle.std.specs.Prelude.{IfErr, OnOk, length}
 use Rattle.std.specs.Io.{StartsWith, appended_bytes}
 use Rattle.std.specs.Io.KnownBytes.{IsAtEnd}
@@ -31,16 +31,6 @@ module _ {R : Type 0} where
   pub record IsOpenBelow (limit : ℕ) (reader : CaptureReader R) : Type 0 where
     pub within : IsOpenWithin limit reader
     pub below : length (kept reader) < limit
-
-  -- a read can follow behind these bytes, fewer than 2^31: none is kept yet, and there is room for a chunk at most
-  pub record IsOpenBehind (front : List ℕ) (reader : CaptureReader R) : Type 0 where
-    pub state : reader.state ≡ Open
-    pub calls : AreCallsIn Open (reads reader)
-    pub unpassed : reader.passed ≡ 0
-    pub none : kept reader ≡ []
-    pub below : length front < 2 ^ 31
-    pub room : length front + reader.bytes.room ≤ 2 ^ 31
-    pub within : reader.bytes.room ≤ 1048576
 
   -- these bytes stand in front of what is kept, in room up to the limit, and nothing was passed over
   pub record HasGrown (limit : ℕ) (first : List ℕ) (reader : CaptureReader R) : Type 0 where
@@ -90,8 +80,3 @@ module _ {R : Type 0} where
     pub whole : OnOk answer (now.state ≡ Open → length (kept now) + now.passed ≡ limit)
     pub end : OnOk answer (now.state ≡ Ended → IsAtEnd (left now.source.reader))
     pub err : IfErr answer (λ e. IsReadingFault e now)
-
-  -- what is kept was taken out, for a walk over it beside the reads, or nothing was
-  abbrev pub HasTakenOut : (old new : CaptureReader R) → Option (List ℕ) → Type 0
-  HasTakenOut old new (Some full) = (full ≡ kept old) × (new.source ≡ old.source) × IsOpenBehind full new
-  HasTakenOut old new None = (kept new ≡ kept old) × (new.source ≡ old.source) × IsOpenBelow (2 ^ 31) new

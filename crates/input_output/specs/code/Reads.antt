@@ -2,7 +2,7 @@
 use Rattle.std.specs.Prelude.{◌≡◌, ℕ, ◌<◌, ◌≤◌, List, [], ◌∷◌, ◌++◌, Option, length}
 use Rattle.std.specs.Io.{StartsWith}
 use Rattle.std.specs.Io.KnownBytes.{Consumes, IsAtEnd}
-use Rattle.input_output.specs.Bytes.{InChunks}
+use Rattle.input_output.specs.Bytes.{WithRoom}
 use Rattle.input_output.specs.Calls.{Call, EndIn, bytes_moved, failed, moved}
 use Rattle.input_output.specs.declared.capture_reader.ReadState.{ReadState}
 use Rattle.input_output.specs.declared.capture_reader.ReadState.TheVariants.{Open, Ended, Failed, LackedMemory}
@@ -27,7 +27,7 @@ module _ {R : Type 0} where
     pub called : HasCalled before after (moved given)
 
 -- what was kept stands in front of what is kept now, in the same room
-pub record IsGrown (old new : InChunks) : Type 0 where
+pub record IsGrown (old new : WithRoom) : Type 0 where
   pub front : StartsWith new.kept old.kept
   pub room : new.room ≡ old.room
   pub within : length new.kept ≤ new.room

@@ -5,16 +5,10 @@ use Rattle.pcap_records.specs.code.Walk.{Captured, HasFed}
 use Rattle.pcap_records.specs.declared.pcap_record.Records.{Records}
 use Rattle.packet_heads.specs.declared.packets.Packet.{Packet}
 use Rattle.packet_heads.specs.declared.stage.PacketStage.{PacketStage}
-use Rattle.packet_heads.specs.declared.walk.CapturePackets.{CapturePackets}
 use Rattle.packet_heads.specs.declared.walk.PacketWalk.{PacketWalk}
 use Rattle.packet_heads.specs.Decision.{packet_decisions}
 use Rattle.packet_heads.specs.code.Handed.{AreHanded, ArePayloadsOf, Handed, packets_among}
-use Rattle.packet_heads.specs.code.Marks.{packets_held}
 use Rattle.packet_heads.specs.code.Order.{AreNumberedFrom, PayloadsRise, TimesFit}
-
--- all packets
-abbrev pub packets_in : CapturePackets → List Packet
-packets_in found = packets_held found.packets
 
 -- these are the decisions on all records of a capture, whose cut record is this one
 pub record AreDecisionsOn (capture : List ℕ) (packets : List Packet) (end : Option ℕ) : Type 0 where
@@ -22,9 +16,6 @@ pub record AreDecisionsOn (capture : List ℕ) (packets : List Packet) (end : Op
   pub reading : IsReading capture records
   pub cut : records.cut ≡ end
   pub exact : packets ≡ packet_decisions records.link records.rows.items capture
-
-abbrev pub ArePacketsOf : List ℕ → CapturePackets → Type 0
-ArePacketsOf capture found = AreDecisionsOn capture (packets_in found) found.cut
 
 -- what those who go on from the packets of a capture of this size have of them
 pub record AreInOrder (size : ℕ) (packets : List Packet) : Type 0 where

@@ -1,6 +1,6 @@
 -- What the machine stands for that says what frames show.
 use Rattle.std.specs.List.{AllByRecursion, IsDistinct, list_any}
-use Rattle.std.specs.Prelude.{◌≡◌, ℕ, ◌<◌, ◌==◌, true, false, List, [], ◌∷◌, ◌++◌, find, is_some}
+use Rattle.std.specs.Prelude.{◌≡◌, ◌≢◌, ℕ, ◌<◌, ◌==◌, true, false, List, [], ◌∷◌, ◌++◌, find, is_some, length, take}
 use Rattle.audit_terms.specs.Finding.{shown, stops}
 use Rattle.audit_terms.specs.Frame.{meets}
 use Rattle.audit_terms.specs.Pass.{PassState, full_from, pass_start}
@@ -43,7 +43,7 @@ pub record IsFoundAfter (frames : List Frame) (machine : FoundPass) : Type 0 whe
   pub parts : frames ≡ met ++ rest
   pub little : AllByRecursion MovesLittle met
   pub shown : (streams : List ℕ) → HaveAllMet met streams
-      → shown false (full_from streams pass_start met) ≡ machine.found.items
+      → shown machine.frames_shown (full_from streams pass_start met) ≡ machine.found.items
   pub goes_on : machine.has_stopped ≡ false → (rest ≡ []) × StandsFor machine.pass (state_after met)
   pub stopped : machine.has_stopped ≡ true → list_any stops machine.found.items ≡ true
   pub kept : IsOrderly frames → AreFramesKept frames machine.shown_at.items machine.found.items
@@ -58,9 +58,17 @@ pub record IsAdded (frame : Frame) (said : List Finding) (old new : FoundPass) :
   pub found : new.found.items ≡ old.found.items ++ said
   pub shown_at : new.shown_at.items ≡ named_with frame said old.shown_at.items
   pub stopped : new.has_stopped ≡ list_any stops said
+  pub same : new.frames_shown ≡ old.frames_shown
 
 -- a frame was met, and what it shows was said
 pub record HasSaid (frame : Frame) (old new : FoundPass) : Type 0 where
   pub said : List Finding
-  pub step : (state : PassState) → StandsFor old.pass state → IsSaidStep state frame said new.pass
+  pub step : (state : PassState) → StandsFor old.pass state → IsSaidStep old.frames_shown state frame said new.pass
   pub added : IsAdded frame said old new
+
+-- of the frames so far, and of some of the later ones but not all, the machine has said what is shown: it is something
+pub record HasFoundAmong (before later : List Frame) (machine : FoundPass) : Type 0 where
+  pub count : ℕ
+  pub left : count < length later
+  pub after : IsFoundAfter (before ++ take count later) machine
+  pub some : machine.found.items ≢ []

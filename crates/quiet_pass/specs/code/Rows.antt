@@ -105,9 +105,9 @@ pub record IsRowStepped (initial : Sides ℕ) (step : Step) (old new : Row) : Ty
   pub after : held new.standings ≡ stream_after old.stream initial (held old.standings) step
 
 -- what a step shows of a row was added; the row is as it is after the step, if it could be kept
-pub record IsRowSaid (initial : Sides ℕ) (step : Step) (kept : Bool) (old new : Row) (before after : List Finding)
-    : Type 0 where
-  pub said : shown false after ≡ shown false before ++ shown false (row_said initial step old)
+pub record IsRowSaid (frames_shown : Bool) (initial : Sides ℕ) (step : Step) (kept : Bool) (old new : Row)
+    (before after : List Finding) : Type 0 where
+  pub said : shown frames_shown after ≡ shown frames_shown before ++ shown frames_shown (row_said initial step old)
   pub stepped : kept ≡ true → IsRowStepped initial step old new
 
 -- what a step shows of the stream of a row that holds credits less a shift
@@ -128,7 +128,8 @@ abbrev pub AreStepped : Sides ℕ → Step → (old new : List Row) → Type 0
 AreStepped initial step = AllZip (IsRowStepped initial step)
 
 -- what a step shows of the streams of rows was added, and each row is as it is after the step, if all could be kept
-pub record AreRowsSaid (initial : Sides ℕ) (step : Step) (kept : Bool) (old new : List Row)
+pub record AreRowsSaid (frames_shown : Bool) (initial : Sides ℕ) (step : Step) (kept : Bool) (old new : List Row)
     (before after : List Finding) : Type 0 where
-  pub said : shown false after ≡ shown false before ++ shown false (flat_map (row_said initial step) old)
+  pub said : shown frames_shown after
+      ≡ shown frames_shown before ++ shown frames_shown (flat_map (row_said initial step) old)
   pub stepped : kept ≡ true → AreStepped initial step old new

@@ -63,10 +63,11 @@ pub record IsKeptAfter (frame : Frame) (connection : ConnectionState) (own promi
   pub other : IsKeptNow (promised_by frame) promised mid new.streams
 
 -- the initial windows of a change are in force, what that shows was added, and all streams are moved
-pub record IsBroughtSaying (frame : Frame) (change : Option Change) (old new : QuietPass)
+pub record IsBroughtSaying (frames_shown : Bool) (frame : Frame) (change : Option Change) (old new : QuietPass)
     (before after : List Finding) : Type 0 where
   pub initial : new.initial ≡ initial_after change old.initial
-  pub streams : IsChangeSaid old.initial (change_alone frame change) (λ streams. AreKept streams old.streams)
+  pub streams : IsChangeSaid frames_shown old.initial (change_alone frame change)
+      (λ streams. AreKept streams old.streams)
       (λ streams. AreKept streams new.streams) before after
   pub connection : new.connection ≡ old.connection
   pub last : new.last ≡ old.last
@@ -89,9 +90,9 @@ pub record HaveOwn (state : PassState) (frame : Frame) (streams : List ℕ) : Ty
   pub live : (stream : ℕ) → 0 < stream → list_any (λ other. other == stream) streams ≡ false
       → state.streams stream ≡ idle_stream
 
--- this is what a frame shows where credits are not shown, and unless the audit stops there, the machine stands for the
--- state after it
-pub record IsSaidStep (state : PassState) (frame : Frame) (found : List Finding) (machine : QuietPass) : Type 0 where
-  pub shown : (streams : List ℕ) → HaveOwn state frame streams → shown false (said streams state frame) ≡ found
+-- this is what a frame shows, and unless the audit stops there, the machine stands for the state after it
+pub record IsSaidStep (frames_shown : Bool) (state : PassState) (frame : Frame) (found : List Finding)
+    (machine : QuietPass) : Type 0 where
+  pub shown : (streams : List ℕ) → HaveOwn state frame streams → shown frames_shown (said streams state frame) ≡ found
   pub goes_on : list_any stops found ≡ false → StandsFor machine (next state frame)
   pub numbered : AllByRecursion (λ (finding : Finding). place_number finding.place ≡ frame.number) found

@@ -45,22 +45,31 @@ is_within range shift = int_le range.least (pos shift) && int_le (pos shift) ran
 abbrev pub are_within : QuietShifts → Sides ℕ → Bool
 are_within quiet shift = is_within quiet.client shift.client && is_within quiet.server shift.server
 
+-- nothing is shown of a window that moves so; where credits are shown, it stays as it is
+pub record IsUnshownMove (frames_shown : Bool) (before after : Option ℤ) : Type 0 where
+  pub quiet : IsQuietMove before after
+  pub still : frames_shown ≡ true → after ≡ before
+
 -- nothing is shown of a window where one shift of a range follows another
-abbrev pub IsWindowQuietFor : ShiftRange → Option ℤ → Type 0
-IsWindowQuietFor range window = (one other : ℕ) → is_within range one ≡ true → is_within range other ≡ true
-    → IsQuietMove (raised_by one window) (raised_by other window)
+abbrev pub IsWindowQuietFor : (frames_shown : Bool) → ShiftRange → Option ℤ → Type 0
+IsWindowQuietFor frames_shown range window =
+    (one other : ℕ) → is_within range one ≡ true → is_within range other ≡ true
+    → IsUnshownMove frames_shown (raised_by one window) (raised_by other window)
 
 -- nothing is shown of a stream where one shift follows another
-pub record IsEntryQuiet (one other : Sides ℕ) (entry : Stream) : Type 0 where
-  pub client : IsQuietMove (raised_by one.client entry.window.client) (raised_by other.client entry.window.client)
-  pub server : IsQuietMove (raised_by one.server entry.window.server) (raised_by other.server entry.window.server)
+pub record IsEntryQuiet (frames_shown : Bool) (one other : Sides ℕ) (entry : Stream) : Type 0 where
+  pub client : IsUnshownMove frames_shown (raised_by one.client entry.window.client)
+      (raised_by other.client entry.window.client)
+  pub server : IsUnshownMove frames_shown (raised_by one.server entry.window.server)
+      (raised_by other.server entry.window.server)
 
-abbrev pub IsEntryQuietFor : QuietShifts → Stream → Type 0
-IsEntryQuietFor quiet entry = (one other : Sides ℕ) → are_within quiet one ≡ true → are_within quiet other ≡ true
-    → IsEntryQuiet one other entry
+abbrev pub IsEntryQuietFor : (frames_shown : Bool) → QuietShifts → Stream → Type 0
+IsEntryQuietFor frames_shown quiet entry =
+    (one other : Sides ℕ) → are_within quiet one ≡ true → are_within quiet other ≡ true
+    → IsEntryQuiet frames_shown one other entry
 
-abbrev pub IsRowQuietFor : QuietShifts → Row → Type 0
-IsRowQuietFor quiet row = IsEntryQuietFor quiet (held row.standings)
+abbrev pub IsRowQuietFor : (frames_shown : Bool) → QuietShifts → Row → Type 0
+IsRowQuietFor frames_shown quiet row = IsEntryQuietFor frames_shown quiet (held row.standings)
 
 -- ---- groups of rows
 
@@ -69,24 +78,25 @@ abbrev pub knows : Level → (group : ℕ) → Sides ℕ → Bool
 knows level group shift = option_map_or (λ quiet. are_within quiet shift) (slice_get level.known.items group) false
 
 -- what is known of groups holds of the rows
-abbrev pub IsCovered : Level → List Row → Type 0
-IsCovered level rows = 0 < level.width → (at : ℕ) (row : Row) → slice_get rows at ≡ Some row → (one other : Sides ℕ)
+abbrev pub IsCovered : (frames_shown : Bool) → Level → List Row → Type 0
+IsCovered frames_shown level rows =
+    0 < level.width → (at : ℕ) (row : Row) → slice_get rows at ≡ Some row → (one other : Sides ℕ)
     → knows level (at / level.width) one ≡ true → knows level (at / level.width) other ≡ true
-    → IsEntryQuiet one other (held row.standings)
+    → IsEntryQuiet frames_shown one other (held row.standings)
 
 -- this is known of a group's rows
-abbrev pub IsGroupQuiet : (width group : ℕ) → QuietShifts → List Row → Type 0
-IsGroupQuiet width group quiet rows =
-    (at : ℕ) (row : Row) → slice_get rows at ≡ Some row → at / width ≡ group → IsRowQuietFor quiet row
+abbrev pub IsGroupQuiet : (frames_shown : Bool) → (width group : ℕ) → QuietShifts → List Row → Type 0
+IsGroupQuiet frames_shown width group quiet rows =
+    (at : ℕ) (row : Row) → slice_get rows at ≡ Some row → at / width ≡ group → IsRowQuietFor frames_shown quiet row
 
 -- nothing is shown of so many rows from one on where one shift follows another
-abbrev pub AreRowsQuiet : (one other : Sides ℕ) → (from count : ℕ) → List Row → Type 0
-AreRowsQuiet one other from count rows =
+abbrev pub AreRowsQuiet : (frames_shown : Bool) → (one other : Sides ℕ) → (from count : ℕ) → List Row → Type 0
+AreRowsQuiet frames_shown one other from count rows =
     (at : ℕ) (row : Row) → from ≤ at → at < from + count → slice_get rows at ≡ Some row
-    → IsEntryQuiet one other (held row.standings)
+    → IsEntryQuiet frames_shown one other (held row.standings)
 
 -- what is known of all groups holds of the rows
-pub record AreCovered (groups : RowGroups) (rows : List Row) : Type 0 where
-  pub small : IsCovered groups.small rows
-  pub middle : IsCovered groups.middle rows
-  pub large : IsCovered groups.large rows
+pub record AreCovered (frames_shown : Bool) (groups : RowGroups) (rows : List Row) : Type 0 where
+  pub small : IsCovered frames_shown groups.small rows
+  pub middle : IsCovered frames_shown groups.middle rows
+  pub large : IsCovered frames_shown groups.large rows

@@ -32,10 +32,18 @@ pub record AreRowsOf (streams : ℕ → Stream) (kept : Streams) : Type 0 where
 abbrev pub shift_of : Streams → Option (Sides ℕ)
 shift_of kept = option_map (λ (shifted : Shifted). shifted.shift) kept.shifted
 
+-- this is the shift that rows hold credits less than, and what is known of groups of them is for where credits are
+-- shown, or for where they are not
+pub record IsShiftFor (frames_shown : Bool) (kept : Streams) (shift : Sides ℕ) : Type 0 where
+  pub shifted : Shifted
+  pub is : kept.shifted ≡ Some shifted
+  pub by : shifted.shift ≡ shift
+  pub known : shifted.frames_shown ≡ frames_shown
+
 -- what is known of groups of rows holds
 pub record AreGroups (shifted : Shifted) (kept : Streams) : Type 0 where
-  pub opened : AreCovered shifted.opened kept.opened.items
-  pub promised : AreCovered shifted.promised kept.promised.items
+  pub opened : AreCovered shifted.frames_shown shifted.opened kept.opened.items
+  pub promised : AreCovered shifted.frames_shown shifted.promised kept.promised.items
 
 -- the same, if rows hold credits less a shift
 abbrev pub AreGrouped : Streams → Type 0
@@ -82,15 +90,15 @@ pub record AreNames (names : List ℕ) : Type 0 where
 
 -- what a step without a frame shows of some streams was added, it shows nothing of others, and the streams are as they
 -- are after the step
-pub record IsChangeSaid (initial : Sides ℕ) (step : Step) (Was Kept : (ℕ → Stream) → Type 0)
+pub record IsChangeSaid (frames_shown : Bool) (initial : Sides ℕ) (step : Step) (Was Kept : (ℕ → Stream) → Type 0)
     (before after : List Finding) : Type 0 where
   pub some : List ℕ
   pub names : (streams : ℕ → Stream) → Was streams → AreNames some
-  pub said : (streams : ℕ → Stream) → Was streams → shown false after ≡ shown false before
-      ++ shown false (flat_map (λ stream. stream_said stream initial (streams stream) step) some)
+  pub said : (streams : ℕ → Stream) → Was streams → shown frames_shown after ≡ shown frames_shown before
+      ++ shown frames_shown (flat_map (λ stream. stream_said stream initial (streams stream) step) some)
   pub others : (streams : ℕ → Stream) → Was streams → (other : ℕ) → 0 < other
       → list_any (λ one. one == other) some ≡ false
-      → shown false (stream_said other initial (streams other) step) ≡ []
+      → shown frames_shown (stream_said other initial (streams other) step) ≡ []
   pub met : (streams : ℕ → Stream) → Was streams
       → Kept (λ stream. stream_after stream initial (streams stream) step)
 

@@ -1,5 +1,5 @@
 -- The connections of a capture while its packets come: what its segments, with their payloads, made of what is kept of
--- each. No public clause cites these, but those on a stage and on a walk.
+-- each. No public clause cites these, but those on a stage.
 use Rattle.std.specs.Prelude.{◌≡◌, ℕ, ◌+◌, ◌<◌, ◌^◌, if◌then◌else◌, List, [], ◌∷◌, ◌++◌, length, Some}
 use Rattle.std.specs.List.{AllZip}
 use Rattle.packet_heads.specs.declared.packets.Packet.{Packet}
@@ -10,11 +10,10 @@ use Rattle.tcp_streams.specs.Membership.{belongings, is_opening, members, openin
 use Rattle.tcp_streams.specs.Sequence.{payload_length}
 use Rattle.tcp_streams.specs.code.Flows.{last_of}
 use Rattle.tcp_streams.specs.code.Orderly.{payload_sum}
-use Rattle.tcp_streams.specs.code.Past.{connection_with, membership, opening_at, openings}
+use Rattle.tcp_streams.specs.code.Past.{opening_at, openings}
 use Rattle.tcp_streams.specs.code.Side.{AreSentIn, IsSent, Sent, segments_among}
 use Rattle.tcp_streams.specs.code.Table.{IsTableOf, RecordsDescend}
 use Rattle.tcp_streams.specs.declared.connection_stage.ConnectionStage.{ConnectionStage}
-use Rattle.tcp_streams.specs.declared.members.Connection.{Connection}
 
 -- the past grows by a packet with its payload: a segment goes in front, any other packet changes nothing
 abbrev pub with_handed : List Sent → Handed → List Sent
@@ -49,10 +48,6 @@ pub record IsNextOf (past : List Sent) (s : Segment) : Type 0 where
 abbrev pub IsNextPacketOf : List Sent → Packet → List ℕ → Type 0
 IsNextPacketOf past (Carried s) payload = IsSent s payload × IsNextOf past s
 IsNextPacketOf past _ payload = Unit {0}
-
--- a connection that its segments made, by the records alone
-abbrev pub HasJoined : (opening : Segment) → List Sent → (last : ℕ) → Connection → Type 0
-HasJoined opening sent last c = membership c ≡ connection_with opening (segments_among sent)
 
 module _ {V : Type 0} (after : Segment → List Sent → ℕ → V → Type 0) where
   -- all segments of the past that belong to the opening were handed on to what is kept of it

@@ -1,5 +1,5 @@
 -- Connections and strays over the past: the segments of a capture, the newest first, so that each definition looks back
--- from a segment to the rest of the list. No public clause cites these, but that on a walk (`Walk`).
+-- from a segment to the rest of the list. No public clause cites these.
 use Rattle.std.specs.Prelude.{ℕ, Bool, false, ◌&&◌, ◌==◌, not, if◌then◌else◌, List, [], ◌∷◌, map, filter, find, length}
 use Rattle.std.specs.Prelude.{Option, None, Some, is_none, option_map}
 use Rattle.std.specs.List.{list_any}

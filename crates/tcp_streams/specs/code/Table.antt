@@ -1,5 +1,5 @@
 -- The table that says which connection a segment belongs to, against the past that it has seen. No public clause cites
--- these, but those on a stage and on a walk (`Opened`, `Walk`).
+-- these, but those on a stage (`Opened`).
 use Rattle.std.specs.Prelude.{◌≡◌, ℕ, ◌+◌, ◌<◌, ◌^◌, true, false, if◌then◌else◌, List, [], ◌∷◌, ◌++◌, length, map}
 use Rattle.std.specs.Prelude.{Option, None, Some, slice_get}
 use Rattle.std.specs.List.{AllZip, list_any}

@@ -3,5 +3,5 @@ use Rattle.audit_report.specs.code.Packets.{HasCounted}
 use Rattle.audit_report.proofs.capture.capture_lines.Given as goal
 
 -- the packets so far were taken
-abbrev pub invariant-loop-index : goal.invariant-loop-index
-invariant-loop-index l = HasCounted (take l.index l.packets) l.lines
+abbrev pub invariant-loop-packet : goal.invariant-loop-packet
+invariant-loop-packet l = HasCounted (take l.packet-index l.packets) l.lines

@@ -1,29 +1,37 @@
-use Rattle.audit_rounds.proofs.Words.{length, ap, arith, sum_by_more, Block, take_all}
+use Rattle.audit_rounds.proofs.Words.{length, not, ap, arith, sum_by_more, Frame, PerConnection, is_past}
+use Rattle.audit_rounds.proofs.Batches.{filter-shorter}
 use Rattle.audit_rounds.proofs.Plans.{cut-next}
+use Rattle.audit_rounds.proofs.Settling.{rest-block}
 use Rattle.audit_rounds.proofs.connection_blocks.in_blocks.Goals as goal
 
-pub loop-connection-preserved : goal.loop-connection-preserved
-loop-connection-preserved c =
-    let i = c.loop-connection.invariant in
-    let at = c.loop-connection.connection in
-    let one = c.index-connections-connection in
+pub add_blocks-requires-clause-whole : goal.add_blocks-requires-clause-whole
+add_blocks-requires-clause-whole c =
+    let here = c.index-connections-n in
+    let rest = c.rest-whole.ensures in
+    (rest-block c.args.division.now.frames_shown here.result
+    (rw (← here.is) at (c.requires.through c.loop-n.n here.result c.loop-n-test.true)) c.rest-whole.result rest.frames
+    rest.opened rest.changes).0
+
+pub loop-n-preserved : goal.loop-n-preserved
+loop-n-preserved c =
+    let i = c.loop-n.invariant in
+    let at = c.loop-n.n in
+    let connections = c.args.connections.now in
+    let here = c.index-connections-n in
+    let one = here.result in
+    let rest = c.rest-whole.ensures in
     let adds = c.in_ok-add_blocks.ensures in
+    let through = rw (← here.is) at (c.requires.through at one c.loop-n-test.true) in
+    let block = rest-block c.args.division.now.frames_shown one through c.rest-whole.result rest.frames rest.opened
+    rest.changes in
     record {
-      cut = cut-next c.args.connections.now at one.result _ _ c.loop-connection-test.true one.is i.cut adds;
+      cut = cut-next connections at one c.rest-whole.result _ _ c.loop-n-test.true here.is block.1 i.cut adds;
       short = adds.short i.short;
       few =
-          let is = ap (λ (one : Block). length one.frames.now) one.is in
-          let more = sum_by_more (λ (one : Block). length one.frames.now) c.args.connections.now at one.result
-          c.loop-connection-test.true in
-          omega (arith, i.few, adds.few, is, more);
+          let is = ap (λ (one : PerConnection). length one.prepared.frames.now) here.is in
+          let more = sum_by_more (λ (one : PerConnection). length one.prepared.frames.now) connections at one
+          c.loop-n-test.true in
+          let kept = ap length rest.frames in
+          let fewer = filter-shorter (λ (frame : Frame). not (is_past one.stop frame.number)) one.prepared.frames.now in
+          omega (arith, i.few, adds.few, is, more, kept, fewer);
     }
-
-pub returns-clause-of : goal.returns-clause-of
-returns-clause-of c =
-    let at = c.loop-connection in
-    rw (take_all at.connection c.args.connections.now (omega arith)) at at.invariant.cut
-
-pub returns-clause-few : goal.returns-clause-few
-returns-clause-few c =
-    let at = c.loop-connection in
-    omega (arith, c.requires.few, rw (take_all at.connection c.args.connections.now (omega arith)) at at.invariant.few)

@@ -1,12 +1,6 @@
 use Rattle.audit_rounds.proofs.Words.{take, get_or, take_more, in_order, in_order-append_left, StreamRow}
-use Rattle.audit_rounds.proofs.Words.{take_all, arith}
-use Rattle.audit_rounds.proofs.StreamWork.{work-none, work-more}
+use Rattle.audit_rounds.proofs.StreamWork.{work-more}
 use Rattle.audit_rounds.proofs.connection_streams.run_of_rows.Goals as goal
-
-pub loop-row-init : goal.loop-row-init
-loop-row-init g c =
-    rw (c.new.ensures.items, c.new-2.ensures.items)
-    (work-none g.L.Look.answers c.args.frames_shown c.args.streams.now c.args.look.now)
 
 pub loop-row-preserved : goal.loop-row-preserved
 loop-row-preserved g c =
@@ -26,7 +20,3 @@ loop-row-preserved g c =
     (work-more g.L.Look.answers c.args.frames_shown c.args.streams.now (take at rows) (get_or rows at d)
     c.args.look.now c.loop-row.look c.run_of_row.new.look (in_order found) run.findings.items
     c.loop-row.work.made.items run.opened_at c.loop-row.work.upto run.upto c.loop-row.invariant c.in_ok-run.ensures)
-
-pub returns : goal.returns
-returns g c = rw c.in_ok-put_in_order.ensures.ok
-    (rw (take_all c.loop-row.row-index c.args.rows.now (omega arith)) at c.loop-row.invariant)

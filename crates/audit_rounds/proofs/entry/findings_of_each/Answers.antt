@@ -1,4 +1,4 @@
-use Rattle.audit_rounds.proofs.Words.{findings_in, List, refl, arith, Bor, Frame, shown, pass, take_all}
+use Rattle.audit_rounds.proofs.Words.{findings_in, List, refl, arith, Bor, Frame, shown, pass}
 use Rattle.audit_rounds.proofs.Lists.{batch-more}
 use Rattle.audit_rounds.proofs.entry.findings_of_each.Goals as goal
 
@@ -18,10 +18,3 @@ loop-done-preserved g c =
           rest.result.1.now at.done _ refl batch.ensures.front rest.ensures.back c.in_ok-append.ensures.items
           at.invariant.shown c.in_ok-found.ensures;
     }
-
-pub by_shares-requires : goal.by_shares-requires
-by_shares-requires g c = (c.type_bounds.sync-R, (c.type_bounds.sync-G, c.next_batch-batch.ensures.batch))
-
-pub returns : goal.returns
-returns g c =
-    rw (take_all c.loop-done.done c.args.connections.now c.loop-done-test.false) at c.loop-done.invariant.shown

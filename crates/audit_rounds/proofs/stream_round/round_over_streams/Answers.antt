@@ -1,27 +1,19 @@
-use Rattle.audit_rounds.proofs.Words.{findings_in, found_before}
-use Rattle.audit_rounds.proofs.Lists.{as-many}
-use Rattle.audit_rounds.proofs.StreamRounds.{parts-inside, are-after}
+use Rattle.audit_rounds.proofs.Words.{IfOk-weaker}
+use Rattle.audit_rounds.proofs.StreamRounds.{are-after}
 use Rattle.audit_rounds.proofs.stream_round.round_over_streams.Goals as goal
 
-pub opened_each-requires : goal.opened_each-requires
-opened_each-requires g c =
-    let division = c.args.division.now in
-    rw (c.as_slice-2.ensures.value) (parts-inside division.frames_shown division.groups division.some_groups
-    c.args.connections.now c.args.found.items c.requires c.in_ok-settled.settled
-    (rw c.as_slice.ensures.value at c.in_ok-settled.ensures))
+pub closed-requires-clause-parts : goal.closed-requires-clause-parts
+closed-requires-clause-parts g c =
+    rw c.as_slice-2.ensures.value (rw c.as_slice.ensures.value at c.in_ok-settled.ensures.inside)
 
 pub gathered-requires : goal.gathered-requires
 gathered-requires g c =
-    let division = c.args.division.now in
-    rw (as-many findings_in found_before c.args.found.items c.args.connections.now c.requires.before)
-    (parts-inside division.frames_shown division.groups division.some_groups c.args.connections.now
-    c.args.found.items c.requires c.in_ok-settled.settled (rw c.as_slice.ensures.value at c.in_ok-settled.ensures))
+    rw c.in_ok-all.ensures.number (rw c.as_slice.ensures.value at c.in_ok-settled.ensures.inside)
 
 pub returns : goal.returns
 returns g c =
     let division = c.args.division.now in
-    are-after division.frames_shown division.groups division.some_groups c.args.connections.now
-    c.args.found.items c.requires c.in_ok-settled.settled (rw c.as_slice.ensures.value at c.in_ok-settled.ensures)
-    c.in_ok-found.found.items c.in_ok-opened.opened.items c.in_ok-found.ensures.number c.in_ok-found.ensures.each
-    c.in_ok-opened.ensures.number
-    (λ n list connection l. rw c.as_slice-2.ensures.value at (c.in_ok-opened.ensures.each n list connection l))
+    IfOk-weaker c.gathered.result _ _ (λ all taken. are-after division.frames_shown division.groups
+    division.some_groups c.args.connections.items c.requires.ready c.in_ok-settled.settled
+    (rw c.as_slice.ensures.value at c.in_ok-settled.ensures) c.in_ok-all.all.items all.items
+    (rw (c.as_slice-2.ensures.value, c.as_slice-3.ensures.value) at c.in_ok-all.ensures) taken) c.gathered.ensures

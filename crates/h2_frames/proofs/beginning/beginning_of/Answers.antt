@@ -1,26 +1,32 @@
-use Rattle.std.proofs.Common.{◌≡◌, ◌++◌, ◌∙◌, ap, append_assoc, arith, subst, sym, take}
-use Rattle.std.proofs.lemmas.List.{append-nil, nil_from_length}
-use Rattle.h2_frames.proofs.Greetings.{cut_short, differs_more, not_begun, not_short}
-use Rattle.h2_frames.proofs.Words.{preface}
-use Rattle.h2_frames.specs.code.Greeting.{Differs}
-use Rattle.h2_frames.specs.code.Pieces.{bytes_left}
+use Rattle.std.proofs.Common.{◌+◌, ◌++◌, ◌∙◌, List, ap, drop, get_or, subst, sym, ℕ}
+use Rattle.h2_frames.proofs.Greetings.{greeted_more}
+use Rattle.h2_frames.proofs.Joining.{joined-more, joined-parts, no_piece}
+use Rattle.h2_frames.proofs.Words.{joined}
+use Rattle.h2_frames.specs.code.Greeting.{IsGreeted}
 use Rattle.h2_frames.proofs.beginning.beginning_of.Goals as goal
 
-pub returns-in-Other : goal.returns-in-Other
-returns-in-Other c =
-    let front = c.take_front-front.result.now in
-    let left = bytes_left c.take_front-front.new.self in
-    let begun = take c.greeting.count preface in
-    let all : (begun ++ front) ++ left ≡ bytes_left c.args.bytes =
-    append_assoc begun front left
-    ∙ sym (c.greeting.invariant.bytes ∙ ap (λ l. begun ++ l) c.take_front-front.ensures.bytes) in
-    let differs : Differs (bytes_left c.args.bytes) = subst (λ l. Differs l) all
-    (differs_more (begun ++ front) left (rw c.in-Other.is at c.greeting_of-greeting.ensures)) in
-    (not_short _ differs, (λ rest. not_begun _ rest differs))
+pub loop-piece-preserved : goal.loop-piece-preserved
+loop-piece-preserved c =
+    let pieces = c.args.pieces.now in
+    let at = c.loop-piece.piece-index in
+    let short = rw c.in-CutShort.is at c.greeting_of.ensures in
+    record {
+      within = short.0;
+      bytes = joined-more pieces at c.loop-piece-test.true
+          ∙ ap (λ l. l ++ (get_or pieces at no_piece).now) c.loop-piece.invariant.bytes ∙ short.1;
+    }
 
-pub returns : goal.returns
-returns c =
-    let none = nil_from_length (bytes_left c.greeting.rest) (omega arith) in
-    cut_short _ c.greeting.count c.greeting.invariant.within
-    (c.greeting.invariant.bytes ∙ ap (λ l. take c.greeting.count preface ++ l) none
-    ∙ append-nil (take c.greeting.count preface))
+pub returns-in_default : goal.returns-in_default
+returns-in_default c =
+    let pieces = c.args.pieces.now in
+    let at = c.loop-piece.piece-index in
+    let more = joined (drop (at + 1) pieces) in
+    let greeted = c.greeting_of.result in
+    let whole = joined-parts pieces (at + 1)
+    ∙ ap (λ l. l ++ more)
+    (joined-more pieces at c.loop-piece-test.true
+    ∙ ap (λ l. l ++ (get_or pieces at no_piece).now) c.loop-piece.invariant.bytes) in (
+      greeted.1.now ++ more,
+      subst (λ (bytes : List ℕ). IsGreeted bytes (greeted.1.now ++ more) greeted.0) (sym whole)
+          (greeted_more _ greeted.1.now more greeted.0 c.in_default.not-CutShort c.greeting_of.ensures),
+    )

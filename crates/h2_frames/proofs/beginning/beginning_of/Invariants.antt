@@ -1,13 +1,9 @@
-use Rattle.std.proofs.Common.{◌≡◌, ◌<◌, ◌++◌, length, take}
-use Rattle.h2_frames.{proofs.Words.preface, proofs.Words.IsMeasured, specs.code.Pieces.bytes_left}
+use Rattle.std.proofs.Common.{◌≡◌, ◌<◌, take}
+use Rattle.h2_frames.proofs.Words.{joined, preface}
 use Rattle.h2_frames.proofs.beginning.beginning_of.Given as goal
 
-abbrev pub invariant-greeting : goal.invariant-greeting
-invariant-greeting l = record {
+abbrev pub invariant-loop-piece : goal.invariant-loop-piece
+invariant-loop-piece l = record {
   within : l.count < 24;
-  bytes : bytes_left l.bytes ≡ take l.count preface ++ bytes_left l.rest;
-  counted : IsMeasured l.rest;
+  bytes : joined (take l.piece-index l.pieces) ≡ take l.count preface;
 }
-
-abbrev pub decreases-greeting : goal.decreases-greeting
-decreases-greeting l = length (bytes_left l.rest)

@@ -1,7 +1,4 @@
-use Rattle.std.proofs.Common.{subst, sym}
-use Rattle.report_pages.specs.declared.told.Outcome.{Outcome}
 use Rattle.h2audit.proofs.Flows.{told-at-once, told-kept}
-use Rattle.h2audit.specs.code.Flows.{IsToldOfFlows}
 use Rattle.h2audit.proofs.each_connection.with_outcome.Goals as goal
 use Rattle.h2audit.proofs.each_connection.with_outcome.Goals.{in-None+in_ok-outcome-in-None, in-Some+in-Http2-1}
 use Rattle.h2audit.proofs.each_connection.with_outcome.Goals.{in-Some+in-NotHttp2-1}

@@ -12,19 +12,16 @@ outcome_found-requires c =
     let client = flows.client in
     let server = flows.server in
     let http2 : IsCut client server (Http2 c.in-Http2.frames c.in-Http2.tails) = rw c.in-Http2.is at cut.is in
-    let is : IfSome c.in_ok-found.field-0 (IsFoundOf client server) =
-    c.in_ok-found.ensures client server http2.0
+    let is : IfSome c.in_ok-found.field-0 (IsFoundOf c.args.frames_shown client server) =
+    c.in_ok-found.ensures.found client server http2.0
     (subst (λ (l : List Frame). IsHttp2 client server l c.in-Http2.tails) (sym c.as_slice.ensures.value) http2.1) in
     (rw c.in-Some.is at is).some_orderly
 
 pub returns : goal.returns
-returns c = (
-  c.if-frames_shown.false,
-  λ client server cut.
-      let http2 : IsCut client server (Http2 c.in-Http2.frames c.in-Http2.tails) = rw c.in-Http2.is at cut in
-      let is : IfSome c.in_ok-found.field-0 (IsFoundOf client server) =
-      c.in_ok-found.ensures client server http2.0
-      (subst (λ (l : List Frame). IsHttp2 client server l c.in-Http2.tails) (sym c.as_slice.ensures.value) http2.1) in
-      held-found client server c.in-Some.found c.in_ok-outcome_found.field-0 c.in_ok-outcome_found.ensures
-      (rw c.in-Some.is at is),
-)
+returns c = λ client server cut.
+    let http2 : IsCut client server (Http2 c.in-Http2.frames c.in-Http2.tails) = rw c.in-Http2.is at cut in
+    let is : IfSome c.in_ok-found.field-0 (IsFoundOf c.args.frames_shown client server) =
+    c.in_ok-found.ensures.found client server http2.0
+    (subst (λ (l : List Frame). IsHttp2 client server l c.in-Http2.tails) (sym c.as_slice.ensures.value) http2.1) in
+    held-found c.args.frames_shown client server c.in-Some.found c.in_ok-outcome_found.field-0
+    c.in_ok-outcome_found.ensures (rw c.in-Some.is at is)

@@ -8,28 +8,29 @@ use Rattle.h2audit.proofs.Flows.{gap-at-end}
 use Rattle.h2audit.proofs.found_connections.told_of.Goals as goal
 
 pub into_visitor-requires : goal.into_visitor-requires
-into_visitor-requires c =
+into_visitor-requires g c =
     let (capture, packets, opening, is) = c.requires in (opening, is.sent, last_of 0 is.sent, is.visited)
 
 pub finish-requires : goal.finish-requires
-finish-requires c =
+finish-requires g c =
     let (capture, packets, opening, is) = c.requires in
     let last = last_of 0 is.sent in
     (opening, is.sent, last, c.in_ok-findings.ensures opening is.sent last is.visited)
 
 pub told_of_found-requires : goal.told_of_found-requires
-told_of_found-requires c =
+told_of_found-requires g c =
     let (capture, packets, opening, is) = c.requires in
     let last = last_of 0 is.sent in
     let has = c.in_ok-findings.ensures opening is.sent last is.visited in
     let (flows, both) = c.in_ok-found.ensures.flows opening is.sent last has capture is.stand in (
+      g.S.Showing.frames_shown,
       flows.client,
       flows.server,
       c.in_ok-found.ensures.found opening is.sent last has capture flows.client flows.server is.stand both,
     )
 
 pub returns : goal.returns
-returns c = λ capture packets opening numbered is.
+returns g c = λ capture packets opening numbered is.
     let last = last_of 0 is.sent in
     let law = c.flows_are_those_sent.ensures in
     let has = c.in_ok-findings.ensures opening is.sent last is.visited in
@@ -52,4 +53,4 @@ returns c = λ capture packets opening numbered is.
             };
       };
       whole = whole.whole;
-    }) (c.told_of_found.ensures flows.client flows.server found client_gap server_gap)
+    }) (c.told_of_found.ensures g.S.Showing.frames_shown flows.client flows.server found client_gap server_gap)

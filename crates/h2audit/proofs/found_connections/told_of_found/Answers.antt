@@ -4,7 +4,7 @@ use Rattle.h2audit.proofs.found_connections.told_of_found.Goals.{in-Http2+in_ok-
 use Rattle.h2audit.proofs.found_connections.told_of_found.Goals.{in-NoPreface, in-NotHttp2}
 
 pub returns : goal.returns
-returns c = λ client server are client_gap server_gap.
+returns c = λ credits client server are client_gap server_gap.
     let keeps : KeepsMet c.match-found.outcome c.args.found.cut =
     elim c.match-found.branch [
       | in-Http2+in_ok-outcome-in-Http2 w ↦ keeps-http2 c.match-found.outcome w.in_ok-outcome-in-Http2.outcome
@@ -14,5 +14,5 @@ returns c = λ client server are client_gap server_gap.
       | in-NoPreface w ↦ rw w.in-NoPreface.is w.outcome-is
       | in-NoHandshake w ↦ rw w.in-NoHandshake.is w.outcome-is
     ] in
-    told-whole client server c.of_ends-reach.result c.match-found.outcome c.args.found.cut keeps are.cut
+    told-whole credits client server c.of_ends-reach.result c.match-found.outcome c.args.found.cut keeps are.cut
     (c.of_ends-reach.ensures client server are.client_end are.server_end client_gap server_gap)

@@ -21,7 +21,7 @@ returns-then-has_ended-clause-read g c =
     let start = rw c.requires.unread.kept at read.bytes in
     let same : given now ≡ kept now = rw c.requires.unread.reads at start.1 in
     let size : length (given now) ≡ length (kept now) + now.passed = omega (arith, ap length same, none) in
-    let slice : c.in_one_slice.result.now ≡ given now = c.in_one_slice.ensures ∙ sym same in
+    let slice : c.kept.result.now ≡ given now = c.kept.ensures ∙ sym same in
     let few = take_all 24 (given now)
     (omega (arith, ap length same, read.ended.sound.within, c.keep_up_to.ensures.grown.room)) in
     record {
@@ -44,7 +44,7 @@ walk_and_let_go-read-requires-clause-walk g c =
     let now = c.keep_up_to.new.reader in
     let start = rw c.requires.unread.kept at c.in_ok-keep_up_to.ensures.bytes in
     let same : given now ≡ kept now = rw c.requires.unread.reads at start.1 in
-    let slice : c.in_one_slice.result.now ≡ given now = c.in_one_slice.ensures ∙ sym same in
+    let slice : c.kept.result.now ≡ given now = c.kept.ensures ∙ sym same in
     let few = take_all 24 (given now) (omega (
       arith,
       ap length same,
@@ -97,7 +97,7 @@ returns-in-Err-clause-read g c = IfOk-weaker c.behind_read-in-Err.result _ _ (λ
       c.keep_up_to.ensures.grown.unpassed,
     ) in
     let filled : length (kept header) ≡ 24 = search rules in
-    let refused = ap refusal (same ∙ sym c.in_one_slice.ensures) ∙ c.in-Err.ensures.err in
+    let refused = ap refusal (same ∙ sym c.kept.ensures) ∙ c.in-Err.ensures.err in
     let answers = header_answers now passed c.in-Err.refusal all (ap length same ∙ filled) refused in
     rw is.1 (record {
       bytes = gave_front (g.R.Read.remaining c.args.reader.now.source.reader) (g.R.Read.remaining now.source.reader) now

@@ -1,23 +1,33 @@
-use Rattle.std.proofs.Common.{◌-◌, ◌%◌, ap, arith, drop, length, subst, take}
-use Rattle.std.specs.Prelude.{min}
-use Rattle.std.proofs.lemmas.List.{length-drop, length-take}
-use Rattle.input_output.proofs.Kept.{front_more}
+use Rattle.std.proofs.Common.{◌-◌, ◌∙◌, ◌++◌, List, ap, arith, drop, length, length-drop, subst, take, ℕ}
+use Rattle.std.proofs.Common.{take-append-drop}
+use Rattle.std.proofs.lemmas.List.{length-take, take_all}
+use Rattle.std.proofs.lemmas.Result.{on_ok_weaker}
 use Rattle.input_output.proofs.front.feed_rest.Goals as goal
 
-pub loop-fed-preserved : goal.loop-fed-preserved
-loop-fed-preserved g c =
-    let fed = c.loop-fed.fed in
-    let all = c.args.capture.now in
-    let more = c.from-more.result.now in
-    let most = min (1048576 - fed % 1048576) (length all - fed) in
-    let front = c.from-more.ensures.front in record {
-      within = omega (
+pub feed-requires : goal.feed-requires
+feed-requires g c =
+    let capture = c.args.capture.now in
+    let fed = c.args.fed in
+    let rest = drop fed capture in (
+      take fed capture,
+      c.requires.walk,
+      omega (
         arith,
-        ap length front,
-        length-take most (drop fed all),
-        length-drop fed all,
-        c.loop-fed.invariant.within,
-      );
-      walk = subst (λ bytes. g.W.FrontWalk.stands bytes c.feed.new.self) (front_more fed most all more front)
-          (c.in_ok-feed.ensures (take fed all) c.loop-fed.invariant.walk);
-    }
+        length-take fed capture,
+        length-take (length capture - fed) rest,
+        length-drop fed capture,
+        c.requires.within,
+        c.requires.short,
+      ),
+    )
+
+pub returns : goal.returns
+returns g c =
+    let capture = c.args.capture.now in
+    let fed = c.args.fed in
+    let rest = drop fed capture in
+    let whole = ap (λ l. take fed capture ++ l)
+    (take_all (length capture - fed) rest (omega (arith, length-drop fed capture)))
+    ∙ take-append-drop fed capture in
+    on_ok_weaker c.feed.result (subst (λ (bytes : List ℕ). g.W.FrontWalk.stands bytes c.feed.new.self) whole)
+    (c.feed.ensures (take fed capture) c.requires.walk)

@@ -45,7 +45,7 @@ loop-at-preserved c =
             (was.stepped (both-kept _ _ kept).0 k d (omega (arith, l, apart)))
       ];
       same = λ k d l. get_or-set_other rows at k next d (omega (arith, l)) ∙ was.same k d (omega (arith, l));
-      said = said-more c.args.before.now c.args.step.now old at row c.loop-at.found.items
+      said = said-more c.args.frames_shown c.args.before.now c.args.step.now old at row c.loop-at.found.items
           c.say_change.new.found.items here within was.said
           c.in_ok-is_kept.ensures.said;
     }
@@ -57,7 +57,7 @@ returns c =
     let done : length old ≤ c.loop-at.at =
     omega (arith, c.loop-at-test.false, c.len-at-end.ensures, c.args.rows.now.ok.0) in
     record {
-      said = said-all c.args.before.now c.args.step.now old c.loop-at.at c.loop-at.found.items
+      said = said-all c.args.frames_shown c.args.before.now c.args.step.now old c.loop-at.at c.loop-at.found.items
           (drop_all c.loop-at.at old done) all.said;
       stepped = λ are-kept.
           stepped-each c.args.before.now c.args.step.now old c.loop-at.rows.items all.long

@@ -1,4 +1,4 @@
-use Rattle.std.proofs.Common.{◌≡◌, ◌<◌, ◌≤◌, ℕ, length, get_or, true, false, drop, ◌++◌}
+use Rattle.std.proofs.Common.{◌≡◌, ◌<◌, ◌≤◌, ℕ, length, get_or, true, drop, ◌++◌}
 use Rattle.std.specs.List.{flat_map}
 use Rattle.audit_terms.specs.Finding.{shown}
 use Rattle.quiet_pass.specs.declared.opened_rows.Row.{Row}
@@ -12,6 +12,7 @@ invariant-loop-at l = let old = l.fn.rows.items in record {
   stepped : l.are_kept ≡ true → (k : ℕ) (d : Row) → k < l.at
       → IsRowStepped l.before l.step (get_or old k d) (get_or l.rows.items k d);
   same : (k : ℕ) (d : Row) → l.at ≤ k → get_or l.rows.items k d ≡ get_or old k d;
-  said : shown false l.found.items ++ shown false (flat_map (row_said l.before l.step) (drop l.at old))
-      ≡ shown false l.fn.found.items ++ shown false (flat_map (row_said l.before l.step) old);
+  said : shown l.frames_shown l.found.items
+      ++ shown l.frames_shown (flat_map (row_said l.before l.step) (drop l.at old))
+      ≡ shown l.frames_shown l.fn.found.items ++ shown l.frames_shown (flat_map (row_said l.before l.step) old);
 }

@@ -4,13 +4,13 @@ use Rattle.quiet_pass.proofs.GroupLemmas.{div-rises, in-group}
 use Rattle.quiet_pass.proofs.row_groups.learn_groups.Goals as goal
 
 pub returns : goal.returns
-returns c below level =
+returns c frames_shown below level =
     let rows = c.args.rows.now in
     let width = c.args.level.now.width in
     let small = c.args.below.now.width in
     let some : 0 < width = omega (arith, c.if-level-eq0.false) in
     let some-below : 0 < small = omega (arith, c.if-below-eq0.false) in
-    c.learn.ensures.covered rows level (λ at row there same one other p q.
+    c.learn.ensures.covered frames_shown rows level (λ at row there same one other p q.
     let of = in-group at (c.args.end - 1) width some same in
     let past = c.end_of-past.ensures.each at of.1 (slice_get_within rows at row there) in
     let last : at ≤ c.end_of-past.result - 1 = omega (arith, past) in

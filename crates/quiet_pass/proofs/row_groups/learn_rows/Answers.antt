@@ -7,6 +7,7 @@ returns c covered =
     let rows = c.args.rows.now in
     let width = c.args.small.now.width in
     let some : 0 < width = omega (arith, c.if-small-eq0.false) in
-    c.learn.ensures.covered rows covered (λ at row there same.
+    c.learn.ensures.covered c.args.frames_shown rows covered (λ at row there same.
     let of = in-group at (c.args.end - 1) width some same in
-    c.quiet_of-quiet.ensures at row of.0 (c.end_of.ensures.each at of.1 (slice_get_within rows at row there)) there)
+    c.quiet_of-quiet.ensures at row of.0 (c.end_of-past.ensures.each at of.1
+    (slice_get_within rows at row there)) there)

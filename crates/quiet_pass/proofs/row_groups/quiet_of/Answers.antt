@@ -10,13 +10,13 @@ pub loop-at-preserved : goal.loop-at-preserved
 loop-at-preserved c k row above below there = elim (cases_eq k c.loop-at.at) [
   | inl own ↦
       let at = subst (λ n. slice_get c.args.rows.now n ≡ Some row) own there in
-      narrower c.both-quiet.result c.of.result (held row.standings) c.both-quiet.ensures.other
-      (subst (λ (entry : Stream). IsEntryQuietFor c.of.result entry)
+      narrower c.args.frames_shown c.both-quiet.result c.of.result (held row.standings) c.both-quiet.ensures.other
+      (subst (λ (entry : Stream). IsEntryQuietFor c.args.frames_shown c.of.result entry)
       (c.held-entry.ensures.same
       ∙ ap (λ (row : Row). held row.standings) (get_or_from_slice_get c.args.rows.now c.loop-at.at row _ at))
       c.of.ensures)
   | inr apart ↦
-      narrower c.both-quiet.result c.loop-at.quiet (held row.standings) c.both-quiet.ensures.own
+      narrower c.args.frames_shown c.both-quiet.result c.loop-at.quiet (held row.standings) c.both-quiet.ensures.own
       (c.loop-at.invariant k row above (omega (arith, below, apart)) there)
 ]
 

@@ -10,7 +10,7 @@ loop-at-init c = record {
   long = refl;
   lowered = λ k d l. absurd (omega (arith, l));
   same = λ k d l. refl;
-  covered = c.new-groups.ensures c.args.rows.now.items;
+  covered = λ frames_shown. c.new-groups.ensures frames_shown c.args.rows.now.items;
 }
 
 pub loop-at-preserved : goal.loop-at-preserved
@@ -34,7 +34,9 @@ loop-at-preserved c =
         | inr apart ↦ rw (get_or-set_other rows at k low d apart) (was.lowered k d (omega (arith, l, apart)))
       ];
       same = λ k d l. get_or-set_other rows at k low d (omega (arith, l)) ∙ was.same k d (omega (arith, l));
-      covered = c.in_ok-forget.ensures rows _ was.covered (λ other differ. set-elsewhere rows at other low differ);
+      covered = λ frames_shown.
+          c.in_ok-forget.ensures frames_shown rows _ (was.covered frames_shown)
+          (λ other differ. set-elsewhere rows at other low differ);
     }
 
 pub returns-clause-lowered : goal.returns-clause-lowered

@@ -1,4 +1,4 @@
-use Rattle.std.proofs.Common.{◌≡◌, ◌<◌, ◌≤◌, ℕ, length, get_or}
+use Rattle.std.proofs.Common.{◌≡◌, ◌<◌, ◌≤◌, Bool, ℕ, length, get_or}
 use Rattle.quiet_pass.specs.declared.opened_rows.Row.{Row}
 use Rattle.quiet_pass.specs.code.Rows.{IsLowered}
 use Rattle.quiet_pass.specs.code.Shifts.{AreCovered}
@@ -9,5 +9,5 @@ invariant-loop-at l = let old = l.fn.rows.items in record {
   long : length l.rows.items ≡ length old;
   lowered : (k : ℕ) (d : Row) → k < l.at → IsLowered l.shift (get_or old k d) (get_or l.rows.items k d);
   same : (k : ℕ) (d : Row) → l.at ≤ k → get_or l.rows.items k d ≡ get_or old k d;
-  covered : AreCovered l.groups l.rows.items;
+  covered : (frames_shown : Bool) → AreCovered frames_shown l.groups l.rows.items;
 }

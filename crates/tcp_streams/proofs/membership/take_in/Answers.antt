@@ -17,7 +17,7 @@ pub loop-index-preserved : goal.loop-index-preserved
 loop-index-preserved c =
     let packets = c.args.packets.now in
     let index = c.loop-index.index in
-    elim c.match-segment.branch [
+    elim c.match-segment_at.branch [
       | in-Some+in_ok-add w ↦ rw (w.table-is, w.opened-is, past_of-more packets index _ w.in-Some.ensures.some)
           (w.in_ok-add.ensures _ c.loop-index.invariant.0 c.loop-index.invariant.1
           (RecordsDescend-next 1 [] packets index _ c.requires.numbered tt w.in-Some.ensures.some))

@@ -9,18 +9,12 @@ read_into-requires g c = omega (arith, sizes c.self.inside c.args.self.now c.sel
 pub returns : goal.returns
 returns g c =
     let read = c.in_ok-count.ensures.read in record {
-      grown = is_grown c.self.inside c.read_into.new.chunk c.args.self.now c.self.invariant c.self.view_is
+      grown = is_grown c.self.inside c.read_into.new.bytes c.args.self.now c.self.invariant c.self.view_is
           c.read_into.ensures.length c.read_into.ensures.front c.in_ok-count.count _ refl read.count;
-      read = has_read c.self.inside c.read_into.new.chunk c.args.self.now c.self.invariant c.self.view_is
+      read = has_read c.self.inside c.read_into.new.bytes c.args.self.now c.self.invariant c.self.view_is
           c.read_into.ensures.length c.read_into.ensures.front g.R.Read.remaining _ _ c.in_ok-count.count _ refl read;
       failed = tt;
     }
-
-pub invariant_of-self : goal.invariant_of-self
-invariant_of-self g c = (c.self.invariant.0, omega arith, omega arith, omega arith)
-
-pub invariant_of-self-2 : goal.invariant_of-self-2
-invariant_of-self-2 g c = grind (arith, common_steps)
 
 pub overflow_add-self : goal.overflow_add-self
 overflow_add-self g c = grind (arith, common_steps)

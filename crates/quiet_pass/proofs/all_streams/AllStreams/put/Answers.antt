@@ -1,11 +1,16 @@
-use Rattle.stream_credit.proofs.Words.{subst, sym, ◌≡◌}
-use Rattle.quiet_pass.proofs.AllLemmas.{put-in-full, put-in-rows}
+use Rattle.stream_credit.proofs.Words.{arith, subst, sym, ◌≡◌}
+use Rattle.quiet_pass.proofs.AllLemmas.{kept-same, put-in-full, put-in-rows}
 use Rattle.quiet_pass.specs.code.AllStreams.{AreKept}
 use Rattle.quiet_pass.specs.code.Streams.{AreStreams}
 use Rattle.quiet_pass.specs.declared.all_streams.AllStreams.{AllStreams}
 use Rattle.quiet_pass.specs.declared.all_streams.AllStreams.TheVariants.{Rows, Whole}
 use Rattle.quiet_pass.specs.declared.kept_streams.Streams.{Streams}
 use Rattle.quiet_pass.proofs.all_streams.AllStreams.put.Goals as goal
+
+pub returns-then-stream-eq0 : goal.returns-then-stream-eq0
+returns-then-stream-eq0 c = λ streams next own others h.
+    kept-same c.args.self.now streams next
+    (λ o above. sym (others o above (λ e. absurd (omega (arith, above, e, c.if-stream-eq0.true))))) h
 
 pub returns-then-branch : goal.returns-then-branch
 returns-then-branch c = λ streams next own others h.

@@ -17,9 +17,9 @@ returns-in_ok-say_change-in-Rows-2 c =
     c.in_ok-whole-in-Rows.ensures streams
     (subst (λ (rows : Streams). AreStreams streams rows) (sym same)
     (subst (λ (kept : AllStreams). AreKept streams kept) c.in-Rows.is h)))
-    (rw found at c.in_ok-say_change-in-Rows-2.ensures)
+    (rw found at (c.in_ok-say_change-in-Rows-2.ensures c.args.frames_shown))
 
 pub returns-in_ok-say_change-in-Whole : goal.returns-in_ok-say_change-in-Whole
 returns-in_ok-say_change-in-Whole c =
     said-from (λ streams h. subst (λ (kept : AllStreams). AreKept streams kept) c.in-Whole.is h)
-    c.in_ok-say_change-in-Whole.ensures
+    (c.in_ok-say_change-in-Whole.ensures c.args.frames_shown)

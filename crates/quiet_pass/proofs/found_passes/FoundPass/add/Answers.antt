@@ -9,7 +9,7 @@ returns-then-is_empty c =
     let none = nil_from_length said.items (omega (arith, said.ok.0, eqb-true _ _ (sym c.if-is_empty.ensures))) in
     record {
       added = none-added c.args.frame.now c.args.self.now _ none refl refl
-          (rw c.as_slice.ensures.value at c.has_stop-self.ensures);
+          (rw c.as_slice.ensures.value at c.has_stop-self.ensures) refl;
       pass = refl;
     }
 
@@ -21,6 +21,7 @@ returns c = record {
         ∙ named-some c.args.frame.now c.args.said.items c.args.self.now.shown_at.items
         (λ e. absurd (omega (arith, e, c.args.said.ok.0, eqb-false _ _ (sym c.if-is_empty.ensures))));
     stopped = rw c.as_slice.ensures.value at c.has_stop-self.ensures;
+    same = refl;
   };
   pass = refl;
 }

@@ -1,7 +1,8 @@
-use Rattle.stream_credit.proofs.Words.{refl, OnTrue_at}
+use Rattle.stream_credit.proofs.Words.{ap, OnTrue_at}
 use Rattle.std.proofs.lemmas.Bool.{OnFalse_at}
 use Rattle.quiet_pass.proofs.FoundLemmas.{orderly-range, quiet-more, said-after, stays}
 use Rattle.quiet_pass.proofs.RoomLemmas.{found-room}
+use Rattle.quiet_pass.specs.declared.found_passes.FoundPass.{FoundPass}
 use Rattle.quiet_pass.proofs.found_passes.FoundPass.meet.Goals as goal
 
 pub meet_settings-requires-clause-range : goal.meet_settings-requires-clause-range
@@ -21,14 +22,21 @@ say-requires-clause-room c =
     rw (OnFalse_at c.if-is_quiet.false c.in_ok-is_quiet.ensures.left)
     (found-room c.args.frame.now c.requires.1 c.if-self.false c.requires.2)
 
-pub returns-then-self : goal.returns-then-self
-returns-then-self c = λ frames h orderly. stays c.args.frame.now c.if-self.true h orderly
+pub returns-then-self-clause-after : goal.returns-then-self-clause-after
+returns-then-self-clause-after c = λ frames h orderly. stays c.args.frame.now c.if-self.true h orderly
 
-pub returns-then-is_quiet : goal.returns-then-is_quiet
-returns-then-is_quiet c = λ frames h orderly.
+pub returns-then-is_quiet-clause-after : goal.returns-then-is_quiet-clause-after
+returns-then-is_quiet-clause-after c = λ frames h orderly.
+    let met = c.in_ok-is_quiet.ensures in
     quiet-more c.args.frame.now h c.if-self.false c.moves_little.ensures orderly
-    (OnTrue_at c.if-is_quiet.true c.in_ok-is_quiet.ensures.quiet _ (h.goes_on c.if-self.false).1) refl refl refl
+    (OnTrue_at c.if-is_quiet.true met.quiet _ (h.goes_on c.if-self.false).1)
+    (ap (λ (one : FoundPass). one.found) met.rest) (ap (λ (one : FoundPass). one.shown_at) met.rest)
+    (ap (λ (one : FoundPass). one.has_stopped) met.rest) (OnTrue_at c.if-is_quiet.true met.hidden)
+    (ap (λ (one : FoundPass). one.frames_shown) met.rest)
 
-pub returns : goal.returns
-returns c = said-after c.args.frame.now c.args.self.now _ _ c.if-self.false c.moves_little.ensures
-    (OnFalse_at c.if-is_quiet.false c.in_ok-is_quiet.ensures.left) c.in_ok-say.ensures refl refl
+pub returns-clause-after : goal.returns-clause-after
+returns-clause-after c =
+    let met = c.in_ok-is_quiet.ensures in
+    said-after c.args.frame.now c.args.self.now _ _ c.if-self.false c.moves_little.ensures
+    (OnFalse_at c.if-is_quiet.false met.left) c.in_ok-say.ensures (ap (λ (one : FoundPass). one.found) met.rest)
+    (ap (λ (one : FoundPass). one.shown_at) met.rest) (ap (λ (one : FoundPass). one.frames_shown) met.rest)

@@ -9,5 +9,6 @@ returns c =
         found = adds.added.found;
         shown_at = adds.added.shown_at;
         stopped = adds.added.stopped;
+        same = adds.added.same;
       };
     }

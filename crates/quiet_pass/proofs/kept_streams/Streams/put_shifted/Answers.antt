@@ -15,7 +15,12 @@ returns-then-stream-eq1-clause-put c =
     let was : old.shifted ≡ Some shifted = sym c.take.ensures.value ∙ c.in-Some-take.is in
     let put = c.in_ok-is_put.ensures in
     let now : Shifted =
-    record { shift = shifted.shift; opened = c.put_shifted.new.groups; promised = shifted.promised } in
+    record {
+      frames_shown = shifted.frames_shown;
+      shift = shifted.shift;
+      opened = c.put_shifted.new.groups;
+      promised = shifted.promised;
+    } in
     let new : Streams = record { opened = c.put_shifted.new.rows; promised = old.promised; shifted = Some now } in
     OnTrue_from c.in_ok-is_put.is_put _ (λ e. record {
       small = c.requires;
@@ -28,7 +33,7 @@ returns-then-stream-eq1-clause-put c =
       grouped = λ g.
           let groups = g shifted was in
           grouped-by new now refl
-          (record { opened = OnTrue_at e put.covered groups.opened; promised = groups.promised });
+          (record { opened = OnTrue_at e put.covered shifted.frames_shown groups.opened; promised = groups.promised });
     })
 
 pub returns-then-stream-eq1-clause-left : goal.returns-then-stream-eq1-clause-left
@@ -40,7 +45,12 @@ returns-then-stream-eq1-clause-left c =
     OnFalse_from c.in_ok-is_put.is_put _ (λ e.
     same-parts old _ (OnFalse_at e put.rows) refl
     (put-back old shifted _ was
-    (ap (λ (groups : RowGroups). record { shift = shifted.shift; opened = groups; promised = shifted.promised })
+    (ap (λ (groups : RowGroups). record {
+      frames_shown = shifted.frames_shown;
+      shift = shifted.shift;
+      opened = groups;
+      promised = shifted.promised;
+    })
     (OnFalse_at e put.groups))))
 
 pub returns-clause-put : goal.returns-clause-put
@@ -52,7 +62,12 @@ returns-clause-put c =
     let was : old.shifted ≡ Some shifted = sym c.take.ensures.value ∙ c.in-Some-take.is in
     let put = c.in_ok-is_put-2.ensures in
     let now : Shifted =
-    record { shift = shifted.shift; opened = shifted.opened; promised = c.put_shifted-2.new.groups } in
+    record {
+      frames_shown = shifted.frames_shown;
+      shift = shifted.shift;
+      opened = shifted.opened;
+      promised = c.put_shifted-2.new.groups;
+    } in
     let new : Streams = record { opened = old.opened; promised = c.put_shifted-2.new.rows; shifted = Some now } in
     OnTrue_from c.in_ok-is_put-2.is_put _ (λ e. record {
       small = c.requires;
@@ -65,7 +80,7 @@ returns-clause-put c =
       grouped = λ g.
           let groups = g shifted was in
           grouped-by new now refl
-          (record { opened = groups.opened; promised = OnTrue_at e put.covered groups.promised });
+          (record { opened = groups.opened; promised = OnTrue_at e put.covered shifted.frames_shown groups.promised });
     })
 
 pub returns-clause-left : goal.returns-clause-left
@@ -77,5 +92,10 @@ returns-clause-left c =
     OnFalse_from c.in_ok-is_put-2.is_put _ (λ e.
     same-parts old _ refl (OnFalse_at e put.rows)
     (put-back old shifted _ was
-    (ap (λ (groups : RowGroups). record { shift = shifted.shift; opened = shifted.opened; promised = groups })
+    (ap (λ (groups : RowGroups). record {
+      frames_shown = shifted.frames_shown;
+      shift = shifted.shift;
+      opened = shifted.opened;
+      promised = groups;
+    })
     (OnFalse_at e put.groups))))

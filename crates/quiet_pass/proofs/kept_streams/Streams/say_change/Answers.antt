@@ -17,5 +17,6 @@ returns-clause-said c =
     let odd = rw (c.in_ok-opened.ensures, c.as_slice.ensures.value, c.new-own.ensures.items) at c.in_ok-odd.ensures in
     let even = rw (c.in_ok-promised.ensures, c.as_slice-2.ensures.value) at c.in_ok-even.ensures in
     said-behind c.args.found.now.items
-    (change-said c.args.initial.now c.args.step.now c.requires.alone none none odd even c.if-not-odd-even.false)
+    (change-said c.args.frames_shown c.args.initial.now c.args.step.now c.requires.alone none none odd even
+    c.if-not-odd-even.false)
     c.in_ok-append.ensures.items

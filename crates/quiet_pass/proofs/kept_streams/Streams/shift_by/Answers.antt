@@ -13,6 +13,9 @@ returns c =
     let was-even = c.in_ok-even.ensures ∙ c.as_slice-2.ensures.value in
     let one = c.in-Some.opened in
     let two = c.in-Some-2.promised in
-    begins-shifted (record { shift = c.args.initial.now; opened = one; promised = two }) old _ none refl
+    let shows = c.args.frames_shown in
+    begins-shifted
+    (record { frames_shown = shows; shift = c.args.initial.now; opened = one; promised = two }) old _ none
+    refl
     (rw was-odd at (odd.lowered one c.in-Some.is)) (rw was-even at (even.lowered two c.in-Some-2.is))
-    (odd.covered one c.in-Some.is) (even.covered two c.in-Some-2.is)
+    (odd.covered one c.in-Some.is shows) (even.covered two c.in-Some-2.is shows)

@@ -14,7 +14,7 @@ entry_of-promised-requires c = streams-kept c.requires.room
 
 pub returns-then-branch : goal.returns-then-branch
 returns-then-branch c =
-    said-plain c.entry_of-own.result c.entry_of-promised.result
+    said-plain c.args.frames_shown c.entry_of-own.result c.entry_of-promised.result
     c.promised_by-other.result c.promised_by-other.ensures c.requires.range c.requires.plain
     c.entry_of-own.ensures.same c.entry_of-promised.ensures.same c.is_opening-opens.ensures
     c.in_ok-connection.ensures c.new-found.ensures.items c.in_ok-say_entry.ensures c.in_ok-say_entry-2.ensures
@@ -22,7 +22,7 @@ returns-then-branch c =
 
 pub returns : goal.returns
 returns c =
-    said-plain c.entry_of-own.result c.entry_of-promised.result
+    said-plain c.args.frames_shown c.entry_of-own.result c.entry_of-promised.result
     c.promised_by-other.result c.promised_by-other.ensures c.requires.range c.requires.plain
     c.entry_of-own.ensures.same c.entry_of-promised.ensures.same c.is_opening-opens.ensures
     c.in_ok-connection.ensures c.new-found.ensures.items c.in_ok-say_entry.ensures c.in_ok-say_entry-2.ensures

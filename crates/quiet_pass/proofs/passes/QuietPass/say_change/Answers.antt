@@ -4,7 +4,7 @@ use Rattle.quiet_pass.proofs.passes.QuietPass.say_change.Goals as goal
 
 pub returns-then-leaves_windows : goal.returns-then-leaves_windows
 returns-then-leaves_windows c =
-    brought-quietly c.args.self.now c.args.found.now.items c.if-leaves_windows.ensures
+    brought-quietly c.args.frames_shown c.args.self.now c.args.found.now.items c.if-leaves_windows.ensures
 
 pub say_change-requires-clause-room : goal.say_change-requires-clause-room
 say_change-requires-clause-room c =

@@ -6,6 +6,6 @@ pub returns-then-knows : goal.returns-then-knows
 returns-then-knows c =
     let level = c.args.self.now in
     let some : 0 < level.width = omega (arith, c.if-self-eq0.false) in
-    OnTrue_from c.knows-then-knows.result _ (λ known rows.
-    quiet-from level rows c.args.at c.args.shift.now c.args.next.now some c.if-at-self-ne0.false
+    OnTrue_from c.knows-then-knows.result _ (λ known frames_shown rows.
+    quiet-from frames_shown level rows c.args.at c.args.shift.now c.args.next.now some c.if-at-self-ne0.false
     (sym c.knows.ensures ∙ c.if-knows.true) (sym c.knows-then-knows.ensures ∙ known))

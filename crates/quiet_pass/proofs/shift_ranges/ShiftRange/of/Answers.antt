@@ -7,6 +7,7 @@ use Rattle.quiet_pass.proofs.shift_ranges.ShiftRange.of.Goals as goal
 pub returns-in-Some : goal.returns-in-Some
 returns-in-Some c =
     let fits : SFits w64 c.in-Some.credit = search rules in
-    subst (λ (window : Option ℤ). IsWindowQuietFor c.of_credit.result window) (sym c.in-Some.is)
-    (subst (λ (credit : ℤ). IsWindowQuietFor c.of_credit.result (Some credit)) (to_z-of_z w64 c.in-Some.credit fits)
-    c.of_credit.ensures)
+    subst (λ (window : Option ℤ). IsWindowQuietFor c.args.frames_shown c.of_live.result window) (sym c.in-Some.is)
+    (subst (λ (credit : ℤ). IsWindowQuietFor c.args.frames_shown c.of_live.result (Some credit))
+    (to_z-of_z w64 c.in-Some.credit fits)
+    c.of_live.ensures)

@@ -1,7 +1,7 @@
 use Rattle.std.proofs.Common.{rules}
 use Rattle.tcp_streams.proofs.Words.{◌≡◌, ◌++◌, ◌∷◌, [], Client, Server, false, is_endpoint, sym, true, ◌∙◌}
 use Rattle.std.proofs.Common.{subst}
-use Rattle.tcp_streams.proofs.{Both.client-taken, Both.comes-next, Both.server-taken, Takings.both_ok}
+use Rattle.tcp_streams.proofs.{Both.client-taken, Both.comes-next, Both.server-taken, Lists.both_ok}
 use Rattle.tcp_streams.specs.{code.Grown.of_side, code.Side.AreOfRecord, code.Side.IsSideStage}
 use Rattle.tcp_streams.specs.code.Taken.{ServerStands, sent_by}
 use Rattle.tcp_streams.proofs.both_sides.BothSides.take.Goals as goal

@@ -4,7 +4,7 @@ use Rattle.tcp_streams.proofs.Words.{◌∙◌, List}
 use Rattle.tcp_streams.proofs.Words.{sym}
 use Rattle.tcp_streams.specs.code.Flows.{AreWaiting}
 use Rattle.tcp_streams.specs.code.Side.{Sent}
-use Rattle.tcp_streams.proofs.{Takings.both_ok, Waits.answered-is, Waits.next-of-taken, Waits.none-waits}
+use Rattle.tcp_streams.proofs.{Lists.both_ok, Waits.answered-is, Waits.next-of-taken, Waits.none-waits}
 use Rattle.tcp_streams.proofs.Waits.{taken-now, unknown-is, waits-more}
 use Rattle.tcp_streams.proofs.connection_flows.ConnectionFlows.take.Goals as goal
 

@@ -1,4 +1,4 @@
-use Rattle.tcp_streams.proofs.{Takings.both_ok, Waits.answered-now}
+use Rattle.tcp_streams.proofs.{Lists.both_ok, Waits.answered-now}
 use Rattle.tcp_streams.proofs.connection_flows.ConnectionFlows.take_answer.Goals as goal
 
 pub take-requires-clause-next : goal.take-requires-clause-next

@@ -1,6 +1,6 @@
 use Rattle.tcp_streams.proofs.Words.{◌≡◌, ◌<◌, All-nil, [], append-nil, source}
 use Rattle.tcp_streams.specs.{code.Grown.Growth, code.Grown.of_side, code.Side.segments_among}
-use Rattle.tcp_streams.proofs.{Takings.both_ok, Staging.of_side-each}
+use Rattle.tcp_streams.proofs.{Lists.both_ok, Staging.of_side-each}
 use Rattle.tcp_streams.proofs.StagingSteps.{next-of-it, of-record, stage-same, stage-taken}
 use Rattle.tcp_streams.proofs.side_stage.SideStage.take.Goals as goal
 

@@ -1,5 +1,0 @@
-use Rattle.std.proofs.Common.{length}
-use Rattle.audit_core.proofs.rows.+meet_all.Given as goal
-
-abbrev pub decreases-meet_all : goal.decreases-meet_all
-decreases-meet_all l = length l.rows.now
