@@ -4,21 +4,21 @@
 set -euo pipefail
 
 needed=(python3-matplotlib mandoc lintian zsh fish gawk mawk original-awk tshark binutils gcc libc6-dev git)
-# Of costs.
+# For costs.
 needed+=(valgrind)
-# Of the form and the types of Python.
+# For the form and the types of Python.
 needed+=(black flake8 isort mypy)
-# Of the page and its tests.
+# For the page and its tests.
 needed+=(libjs-dygraphs chromium chromium-driver firefox-esr python3-selenium poppler-utils)
-# Of imports and their tests.
+# For imports and their tests.
 needed+=(python3-cryptography python3-zstandard zstd tcpdump openssl)
-# Of the programs in Rust.
+# For the programs in Rust.
 needed+=(cargo rustc rustfmt rust-clippy clang pkg-config libssl-dev libzstd-dev liblzma-dev libbz2-dev)
 needed+=(librust-{atty,bzip2,flate2,itoa,lexopt,memchr,once-cell,openssl,rlimit}-dev)
 needed+=(librust-{signal-hook,tempfile,terminal-size,xz2,zstd}-dev)
-# Of many captures and their tests.
+# For many captures and their tests.
 needed+=(python3-distributed sqlite3 parallel iproute2)
-# Of the answer in words and its tests: real servers and clients.
+# For the answer in words and its tests, which start real servers and clients.
 needed+=(python3-hpack python3-jsonschema python3-grpcio libxml2-utils)
 needed+=(nginx-light nghttp2-client nghttp2-server h2o caddy nodejs curl)
 needed+=(nghttp2-proxy haproxy apache2-bin)

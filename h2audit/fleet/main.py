@@ -29,7 +29,7 @@ from h2audit.fleet.workers import NoWorkers, has_worker, version_of, workers_of
 from h2audit.report.command import IO_FAILED, MISSING, OK, REFUSED, failed, io_reason
 from h2audit.report.interrupts import SIGNALS
 from h2audit.report.progress import progress
-from h2audit.report.words import count
+from h2audit.report.words import count, were
 
 NAME = "h2audit-fleet"
 SIGNALLED = 128
@@ -148,7 +148,9 @@ def run(
         is_whole = dispatcher.run(captures, tick)
     verdicts = database.verdicts(walk.captures)
     standing = len(walk.captures) - len(captures)
-    print(verdicts.summary() + f"; {standing:,} were there" * bool(standing) + passed_over(walk), flush=True)
+    print(
+        verdicts.summary() + f"; {standing:,} {were(standing)} there" * bool(standing) + passed_over(walk), flush=True
+    )
     return status_of(verdicts, walk, asked) if is_whole else interruption.ended(GOES_ON)
 
 

@@ -65,9 +65,9 @@ class Order(TypedDict):
 class TaskAnswer(TypedDict, total=False):
     """What a task answers, also where it fails: plain values, of which it has those that it knows."""
 
-    # Of the last answer of a capture: audited, partial (a part of a large capture was refused, or its requests could
-    # not be told, or a connection of it that may be joined was not), refused (the capture cannot be audited, and never
-    # will be) or failed (it might be another time); of others import (it has to be imported first), imported, split.
+    # The last answer of a capture is audited, partial (a part of a large capture was refused, or its requests could not
+    # be told, or a connection of it that may be joined was not), refused (the capture cannot be audited, and never will
+    # be) or failed (it might be another time); others are import (it has to be imported first), imported, split.
     outcome: str
     reason: str | None
     # Whether a partial one may be whole another time.
@@ -94,7 +94,7 @@ class TaskAnswer(TypedDict, total=False):
     map: str
     folder: str
     standing: list[int]
-    # Of a stretch the place of the file that is another by now.
+    # The place in a stretch of the file that is another by now.
     lost: int
     # What is known of all captures of a run, and how often this one was tried.
     version: str

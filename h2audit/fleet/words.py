@@ -14,7 +14,7 @@ A PATH is a capture, or a folder that is walked over; captures there are known b
 
 exit status:
   0    every capture stands in the database, and none shows a fault; with --watch a signal ended it
-  1    the same, and some connection shows a fault
+  1    every capture stands there, and some connection shows a fault
   2    the command line is invalid
   3    some capture was refused or failed, which its row says; all others stand. Also where a folder or a list
        brings no capture, and with --require-http2 where nothing was audited in one
@@ -129,7 +129,7 @@ def add_audit(words: Words) -> None:
         dest="requests",
         action="store_const",
         const=UNNAMED,
-        help="the same without names and statuses",
+        help="enter requests without their names and statuses",
     )
     words.add_argument("--no-legs", action="store_true", help="tell nothing of both legs of a proxy with requests")
     words.add_argument("--no-joined", action="store_true", help="leave connections alone that began before the capture")

@@ -5,7 +5,7 @@ from h2audit.page.markup import Content, Markup, row, shortened
 from h2audit.page.model import ChartedConnection
 from h2audit.report import answer_types
 from h2audit.report.answer_types import At, Signal
-from h2audit.report.words import count, time_of
+from h2audit.report.words import count, time_of, were
 
 # So many rows of each table.
 MOST_ROWS = 50
@@ -24,11 +24,16 @@ def known_of(one: ChartedConnection) -> list[str]:
         f"TLS: {said['tls']}" * bool(said["tls"]),
         f"Round trip {time_of(trip['nanos'])}, {SOURCES[trip['source'] or 'tcp']}" if trip["nanos"] is not None else "",
         f"Captured {PLACES[said['captured_at']]}" if said["captured_at"] else "",
-        *[f"{count(number, 'byte')} that the {side} sent were acknowledged, and no packet has them"
-          for side, number in said["uncaptured"].items() if number],
-    ]  # fmt: skip
+        *[uncaptured(side, number) for side, number in said["uncaptured"].items() if number],
+    ]
     joined = said["joined"]["text"] if said["joined"] else []
     return [ended(text) for text in [*joined, *said["notes"], *facts, *said["limits"]] if text]
+
+
+def uncaptured(side: str, number: int) -> str:
+    """What TCP tells of bytes that the capture lacks."""
+    them = "it" if number == 1 else "them"
+    return f"{count(number, 'byte')} that the {side} sent {were(number)} acknowledged, and no packet has {them}"
 
 
 def settings_table(one: ChartedConnection) -> Markup:

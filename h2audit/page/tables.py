@@ -50,7 +50,7 @@ def chosen(audit: Audit, times: float) -> Choice:
 
 
 def left_out_words(audit: Audit, sections: int, listed: int, notes: int, windows: int) -> list[str]:
-    """What the tables have of each thing of which they have not all, and by which rule."""
+    """What the tables have of each thing of which they show only some, and by which rule."""
     all_notes, all_connections = sum(len(one.notes) for one in audit.connections), len(audit.connections)
     rules = [
         (sections, all_connections, "connections in full: what the summary names, then by faults, stalls, windows"),

@@ -7,7 +7,7 @@ from datetime import datetime, timezone
 
 from h2audit.page.model import Audit, ChartedConnection, Opening
 from h2audit.report.charts import Note
-from h2audit.report.words import count, duration, streams_named
+from h2audit.report.words import count, duration, streams_named, were
 
 MOST_STALLS = 10
 MOST_NAMED = 8
@@ -50,8 +50,11 @@ def doubts(audit: Audit) -> list[str]:
         ),
         (capture.snapped, f"{count(capture.snapped, 'segment')} kept fewer bytes than the packet had (snapped)."),
         (capture.refused, f"{count(capture.refused, 'packet')} could not be read (refused)."),
-        (capture.fragments, f"{count(capture.fragments, 'IP fragment')} were passed over."),
-        (capture.not_ipv4, f"{count(capture.not_ipv4, 'packet')} of other network protocols were passed over."),
+        (capture.fragments, f"{count(capture.fragments, 'IP fragment')} {were(capture.fragments)} passed over."),
+        (
+            capture.not_ipv4,
+            f"{count(capture.not_ipv4, 'packet')} of other network protocols {were(capture.not_ipv4)} passed over.",
+        ),
         (
             audit.unopened,
             f"{count(audit.unopened, 'pair')} of endpoints had {count(audit.unopened_segments, 'segment')} "
@@ -162,9 +165,12 @@ def verdict(audit: Audit, one: ChartedConnection) -> str:
 
 def flow_words(one: ChartedConnection) -> list[str]:
     return [
-        f"The {flow.side} sent {count(flow.bytes, 'byte')} that were captured without a hole"
+        f"The {flow.side} sent {count(flow.bytes, 'byte')} that {were(flow.bytes)} captured without a hole"
         + (f"; bytes are missing from offset {flow.gap:,} on" if flow.gap is not None else "")
-        + (f"; the last {count(flow.tail, 'byte')} are no whole frame" if flow.tail else "")
+        + (
+            f"; the last {count(flow.tail, 'byte')} {'is' if flow.tail == 1 else 'are'} no whole frame"
+            * bool(flow.tail)
+        )
         + "."
         for flow in one.flows
     ]

@@ -22,6 +22,11 @@ def count(number: int, one: str, many: str = "") -> str:
     return f"{number:,} {one if number == 1 else many or one + 's'}"
 
 
+def were(number: int) -> str:
+    """The verb behind a count."""
+    return "was" if number == 1 else "were"
+
+
 def streams_named(streams: Sequence[int]) -> str:
     """The streams by their numbers: "stream 3", "streams 1, 3, 5", or so many from one to another."""
     if len(streams) == 1:

@@ -2,7 +2,7 @@
 # Builds a Debian package: build_deb.sh STAGE FOLDER
 #
 # STAGE has what `make install` put there with PREFIX=/usr. The package goes to FOLDER, and its name is printed. Its
-# version is that of VERSION. The same files give the same package, byte for byte.
+# version is that of VERSION. Equal files give an equal package, byte for byte.
 set -euo pipefail
 cd "$(dirname "$0")"
 

@@ -2,6 +2,7 @@
 
 import pathlib
 import re
+import sys
 
 # What a shell says of a program that ended since nobody reads what it writes.
 UNREAD = 141
@@ -11,6 +12,13 @@ BUILT = pathlib.Path(__file__).resolve().parents[2] / "companions" / "target" / 
 def companion(name: str) -> pathlib.Path:
     """The program of this name, as h2audit-merge."""
     return BUILT / name
+
+
+def require_built(*names: str) -> None:
+    """Ends a test that is run by hand before these programs are built."""
+    missing = [name for name in names if not companion(name).exists()]
+    if missing:
+        sys.exit(f"not built: {', '.join(missing)}; run make companions first")
 
 
 def without_help(said: str) -> str:

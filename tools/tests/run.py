@@ -27,7 +27,7 @@ BUILT = {"$H2AUDIT": "crates/h2audit_cli/out/h2audit_cli", "$SPLIT": "crates/h2a
 UNPROVED = {"$H2AUDIT": "out/unproved/h2audit", "$SPLIT": "out/unproved/h2audit-split"}
 # How long a test has that is told to end.
 PATIENCE_SECONDS = 10
-# Of a test that fails so many lines are shown once more at the end.
+# So many lines of a test that fails are shown once more at the end.
 LAST_LINES = 4
 
 

@@ -1,8 +1,8 @@
 //! Audits a capture in parts, side by side, and merges their reports: h2audit-any --parts.
 //!
-//! h2audit-split puts the packets of each pair of endpoints into one part, and h2audit-merge makes of the parts' reports
-//! the one that h2audit would give of the whole. Parts hold plaintext: they stand in a folder that its owner alone may
-//! read, and go with any error or signal.
+//! h2audit-split puts the packets of each pair of endpoints into one part, and h2audit-merge makes of the parts'
+//! reports the one that h2audit would give of the whole. Parts hold plaintext: they stand in a folder that its owner
+//! alone may read, and go with any error or signal.
 
 use std::collections::VecDeque;
 use std::ffi::OsStr;

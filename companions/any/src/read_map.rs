@@ -64,7 +64,7 @@ struct ConnectionLines {
 }
 
 impl ConnectionLines {
-    /// A line behind the first.
+    /// Takes a line behind the first.
     fn take(&mut self, words: &[&str]) -> Option<()> {
         match *words.first()? {
             "flow" => {
@@ -85,7 +85,7 @@ enum Began {
 }
 
 impl Reading {
-    /// Takes all lines; an error where they are no map, or not all of one.
+    /// Takes all lines, and fails if they are no map, or not all of one.
     fn read(&mut self, input: impl BufRead) -> Result<(), Broken> {
         let mut reader = MapReader::with_joined(input)?;
         let mut is_whole = true;
@@ -107,7 +107,7 @@ impl Reading {
         }
     }
 
-    /// None where the line is broken; an error where something could not be noted.
+    /// Takes any other line. Answers none if it is broken, and an error if something could not be noted.
     fn other(&mut self, text: &str) -> Option<Result<(), Broken>> {
         let words: Vec<&str> = text.split(' ').collect();
         let number = |place: usize| words.get(place)?.parse::<u64>().ok();
@@ -142,7 +142,7 @@ impl Reading {
         Some(Ok(()))
     }
 
-    /// The first line of a connection.
+    /// Begins with the first line of a connection.
     fn begin(&mut self, words: &[&str]) -> Option<()> {
         self.enter()?;
         let began = match *words.get(9)? {
@@ -156,7 +156,7 @@ impl Reading {
         Some(())
     }
 
-    /// The connection whose lines came is whole: the flow of a TLS client comes first, and both are there.
+    /// Enters the connection whose lines came: the flow of a TLS client comes first, and both are there.
     fn enter(&mut self) -> Option<()> {
         if let Some(told) = self.connection.take() {
             let became = match told.began {

@@ -30,7 +30,7 @@ pub struct Audited {
     pub is_reordered: bool,
     /// Whether connections that began before the capture are joined.
     pub is_joined: bool,
-    /// h2audit's.
+    /// The words that h2audit gets.
     pub options: Vec<String>,
     pub parts: Option<u64>,
     /// Where the rows of the report go.

@@ -101,7 +101,7 @@ impl Flow {
         self.held.as_ref().map_or(0, |held| held.cost)
     }
 
-    /// A hole is not waited for any longer.
+    /// Waits for a hole no longer.
     pub fn lose(&mut self) {
         self.lost = self.behind_hole();
         self.held = None;

@@ -73,7 +73,7 @@ pub struct Decoder {
 }
 
 impl Decoder {
-    /// An error where the capture is refused, as with addresses that clash.
+    /// Fails where the capture is refused, as with addresses that clash.
     #[inline]
     pub fn segment<'a>(&mut self, packet: &Packet<'a>) -> Decoded<'a> {
         let link = match packet.link {
@@ -208,7 +208,7 @@ impl Decoder {
         Ok(found.segment(0))
     }
 
-    /// Only of addresses that have a stand-in: a fragment gives none out.
+    /// Answers only for addresses that have a stand-in: a fragment gives none out.
     fn fragment_of_ipv6(&self, data: &[u8], start: usize, at: usize) -> Option<Fragment> {
         let is_first = u16_at(data, at + 2) & 0xFFF8 == 0;
         if data[at] != TCP {

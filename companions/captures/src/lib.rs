@@ -23,22 +23,22 @@
 //! ```
 //!
 //! Each item that is a packet has the number that Wireshark's `frame.number` has, counted from 1. What an item holds is
-//! borrowed from the source's window until the next one is asked for: nothing is copied, and memory stays bounded by the
-//! largest packet. Memory grows only as bytes come, whatever a length in a file says.
+//! borrowed from the source's window until the next one is asked for: nothing is copied, and memory stays bounded by
+//! the largest packet. Memory grows only as bytes come, whatever a length in a file says.
 //!
 //! [`pcap::Records`] finds records of a pcap file once more, by where they stood.
 //!
 //! # To copy a capture
 //!
-//! [`pcap::Reader`] and [`pcapng::Blocks`] give the records and blocks as they stand, [`pcapng::is_numbered`] says which
-//! blocks Wireshark numbers, and [`pcapng::Clock`] makes nanoseconds of an interface's time. [`pcap::Writer`],
+//! [`pcap::Reader`] and [`pcapng::Blocks`] give the records and blocks as they stand, [`pcapng::is_numbered`] says
+//! which blocks Wireshark numbers, and [`pcapng::Clock`] makes nanoseconds of an interface's time. [`pcap::Writer`],
 //! [`pcapng::put_block`] and [`pcapng::put_option`] write.
 //!
 //! # To find segments
 //!
 //! [`Decoder`] makes a TCP [`Segment`] of a packet, or says why there is none ([`PassedOver`]); segments of IPv6 become
-//! ones of IPv4, between stand-ins for their addresses. [`placed`] says where the bytes of a segment stand among those of
-//! its side, and [`Flow`] puts them in order.
+//! ones of IPv4, between stand-ins for their addresses. [`placed`] says where the bytes of a segment stand among those
+//! of its side, and [`Flow`] puts them in order.
 //!
 //! The rules are those of h2audit (docs/AUDIT_RULES.md, 2 and 3).
 

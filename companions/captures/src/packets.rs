@@ -9,8 +9,8 @@ use crate::source::Source;
 /// No capture has packets of more bytes; of one that claims to, none is kept.
 pub const MOST_CAPTURED: usize = 1 << 24;
 
-/// A captured packet. Its link type is none where a block of pcapng is numbered and is no packet, and where a packet has
-/// more than [`MOST_CAPTURED`] bytes.
+/// A captured packet. Its link type is none where a block of pcapng is numbered and is no packet, and where a packet
+/// has more than [`MOST_CAPTURED`] bytes.
 #[derive(Clone, Copy, Debug)]
 pub struct Packet<'a> {
     /// Since 1970; a time that no 64 bits hold is the nearest one that they do.

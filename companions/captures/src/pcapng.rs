@@ -146,7 +146,7 @@ pub fn options(order: Order, area: &[u8]) -> impl Iterator<Item = (usize, u16, &
     })
 }
 
-/// The clock of an interface: units in a second (none where there are more than any time has), and an offset in seconds.
+/// The clock of an interface: units in a second (none if there are more than any time has), and an offset in seconds.
 #[derive(Clone, Copy, Debug)]
 pub struct Clock {
     units: Option<i128>,

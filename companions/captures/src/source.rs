@@ -51,7 +51,7 @@ impl Source {
         Source::new(Box::new(Counted { file: opened(path)?, count }))
     }
 
-    /// That of a file that is open, from its place on.
+    /// The source of a file that is open, from its place on.
     pub fn of_file(file: File, count: fn(u64)) -> Result<Source, Error> {
         Source::new(Box::new(Counted { file: Box::new(file), count }))
     }
@@ -77,14 +77,14 @@ impl Source {
         fs::metadata(path).map(|found| Some(found.len()).filter(|_| found.is_file()))
     }
 
-    /// As many of the next bytes as are asked for, fewer at the end alone.
+    /// Gives as many of the next bytes as are asked for, fewer at the end alone.
     #[inline]
     pub fn fill(&mut self, size: usize) -> Result<&[u8], Error> {
         while self.end - self.start < size && self.read_more()? {}
         Ok(self.view(size))
     }
 
-    /// As many of the next bytes as are asked for, of those that were filled in.
+    /// Gives as many of the next bytes as are asked for, of those that were filled in.
     #[inline]
     pub fn view(&self, size: usize) -> &[u8] {
         &self.window[self.start..self.end.min(self.start + size)]

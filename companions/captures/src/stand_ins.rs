@@ -26,12 +26,12 @@ impl StandIns {
         Ok(stand_in)
     }
 
-    /// Without giving one out.
+    /// The stand-in that was given out for an address.
     pub fn known(&self, address: &[u8; 16]) -> Option<[u8; 4]> {
         self.known.get(address).copied()
     }
 
-    /// A capture that has addresses of 240.0.0.0/4 itself cannot have IPv6 too.
+    /// Fails if there is IPv6, since a capture that has addresses of 240.0.0.0/4 itself cannot have that too.
     pub fn meet_class_e(&mut self) -> Result<(), Error> {
         self.has_class_e = true;
         self.check()

@@ -93,7 +93,7 @@ fn record_of(header: &Header, head: &[u8]) -> Record {
 }
 
 fn put_packet(order: Order, record: &Record, data: &[u8], options: &[u8], out: &mut impl Write) -> Result<(), Ended> {
-    // Of the only interface.
+    // 0 is the number of the only interface.
     let numbers = [0, (record.time >> 32) as u32, record.time as u32, data.len() as u32, record.original];
     let head: Vec<u8> = numbers.iter().flat_map(|number| order.put_u32(*number)).collect();
     let body = [&head[..], data, pcapng::padding_of(data.len()), options];

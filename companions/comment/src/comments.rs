@@ -9,7 +9,7 @@ use crate::answered::Said;
 use crate::ended::Ended;
 use crate::windows::Setters;
 
-/// A comment's length is a number of 16 bits, and Wireshark reads no block above 16 MiB: so a packet takes so many bytes.
+/// A packet takes so many bytes of comments. Each has a length of 16 bits, and Wireshark reads no block above 16 MiB.
 const MOST_BYTES: usize = 4 << 20;
 
 /// What a report finds.

@@ -54,7 +54,7 @@ pub struct Windows {
 }
 
 impl Windows {
-    /// A credit line.
+    /// Takes a credit line.
     pub fn meet(&mut self, finding: &Finding) {
         let is_connection = finding.stream == 0;
         let has_content = self.last_of_connection == Some((finding.frame, finding.side));

@@ -62,7 +62,7 @@ impl Head {
         Head { length: number(0) >> 8, kind, flags, stream: number(5) & STREAM }
     }
 
-    /// As it stands in front of its payload.
+    /// The header as it stands in front of its payload.
     #[inline]
     pub fn octets(&self) -> [u8; HEADER] {
         let kinds = u64::from(self.kind) << 32 | u64::from(self.flags) << 24;
@@ -87,8 +87,7 @@ pub struct Cut<'a> {
     pub payload: &'a [u8],
     /// When its packets came, the first and the last one too.
     pub times: &'a [Nanos],
-    /// How many bytes of it had come by each of these times, its header among them; nothing where all came at one time, or
-    /// that number.
+    /// How many bytes of it had come by each of these times, its header too; nothing or one number if all came at once.
     pub arrived: &'a [u32],
 }
 
@@ -160,7 +159,7 @@ impl Cutter {
         (self.begun == HEADER).then(|| (Head::of(&self.header).stream, &self.times[..]))
     }
 
-    /// That frame with as much of its payload as is wanted, as it stands at the end.
+    /// The frame whose rest did not come, with as much of its payload as is wanted, as it stands at the end.
     pub fn unfinished(&self) -> Option<Cut<'_>> {
         let Cutter { header, kept, times, arrived, .. } = self;
         (self.begun == HEADER).then(|| Cut { head: Head::of(header), payload: kept, times, arrived })
@@ -188,7 +187,7 @@ impl Cutter {
         self.begun == 0
     }
 
-    /// Likewise up to the end of one frame, of bytes behind the preface. Answers what stands behind it.
+    /// Takes bytes behind the preface up to the end of one frame, which it gives. Answers the bytes behind that.
     #[inline(always)]
     pub fn take_one<'a>(
         &mut self,
@@ -284,7 +283,7 @@ impl Cutter {
         behind
     }
 
-    /// The frame that was begun is over. Keeps no room that few frames need.
+    /// Ends the frame that was begun, and keeps no room that few frames need.
     fn let_go(&mut self) {
         self.begun = 0;
         if self.kept.capacity() > MOST_ROOM {

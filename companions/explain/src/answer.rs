@@ -147,7 +147,7 @@ pub struct ConnectionSaid {
     pub round_trip: RoundTrip,
     pub captured_at: Option<Place>,
     pub limits: Vec<String>,
-    /// Those of the first SETTINGS.
+    /// The initial windows of the first SETTINGS.
     pub settings: Vec<SettingSaid>,
     pub faults: Vec<FaultSaid>,
     /// In the order in which they began.
@@ -168,7 +168,7 @@ pub struct ConnectionSaid {
     pub uncaptured: Vec<(Side, Uncaptured)>,
     /// By how many nanoseconds its times go back, at most.
     pub late: u64,
-    /// What its first frames are, by sides: a connection that was captured twice has the same twice.
+    /// What its first frames are, by sides, which tells a connection that was captured twice.
     pub print: [Print; 2],
     pub flows: Vec<Flow>,
     /// Where charts are asked for.

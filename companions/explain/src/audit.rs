@@ -31,7 +31,7 @@ pub struct Stalled {
 #[derive(Debug)]
 pub struct Audit {
     pub number: u64,
-    /// That opened it.
+    /// The record that opened it.
     pub record: u64,
     pub form: Form,
     pub flows: Vec<Flow>,

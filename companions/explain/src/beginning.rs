@@ -1,5 +1,5 @@
-//! The beginning of a connection that was made up, as its frames come; and windows that were not seen to be used up, behind
-//! it (docs/WHY.md, 13).
+//! The beginning of a connection that was made up, as its frames come; and windows that were not seen to be used up,
+//! behind it (docs/WHY.md, 13).
 
 use std::collections::HashMap;
 use std::rc::Rc;
@@ -12,8 +12,8 @@ use crate::seen::Key;
 /// From a content at which a window had its least credit to the next one behind the last of these.
 pub type Doubtful = Option<(Nanos, Nanos)>;
 
-/// A window that was not seen to be used up: the credit that is left of what is assumed where it had the least, and when
-/// something may have waited for it.
+/// A window that was not seen to be used up: the credit that is left of what is assumed where it had the least, and
+/// when something may have waited for it.
 #[derive(Clone, Copy, Debug)]
 struct Bound {
     left: i64,
@@ -21,8 +21,8 @@ struct Bound {
     is_low: bool,
 }
 
-/// Content of a stream: when its packets came first and last, whether it ends the stream, and what it leaves of the stream's
-/// window and of the connection's.
+/// Content of a stream: when its packets came first and last, whether it ends the stream, and what it leaves of the
+/// stream's window and of the connection's.
 #[derive(Clone, Copy, Debug)]
 pub struct Content {
     pub side: usize,
@@ -42,7 +42,7 @@ pub struct Beginning {
     bounds: HashMap<Key, Bound>,
 }
 
-/// By which the windows of a side are known; one stands for those of all streams that opened since.
+/// The key of a window of a side; one key stands for the windows of all streams that opened since.
 fn key_of(one: &Assumed) -> Key {
     let stream = match one.what {
         What::Connection => 0,
@@ -52,7 +52,7 @@ fn key_of(one: &Assumed) -> Key {
     (one.side, stream)
 }
 
-/// The same of a stream.
+/// The key of a stream's window: its own only if the stream was open before the capture.
 pub fn key_of_stream(inferred: &Inferred, side: usize, stream: u32) -> Key {
     let was_open = inferred.open.binary_search(&stream).is_ok();
     (side, if was_open { stream } else { u32::MAX })

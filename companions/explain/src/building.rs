@@ -35,8 +35,7 @@ pub struct ExplainOptions<'a> {
     /// The program that audits, where it is named, and its options.
     pub h2audit: Option<OsString>,
     pub options: &'a [String],
-    /// A report of h2audit on what the import makes, where there is one: then no program audits. It may be of some parts
-    /// of it alone.
+    /// A report of h2audit on what the import makes, or on some parts of it: if it is there, no program audits.
     pub report: Option<&'a Path>,
     /// Whether names of requests are wanted; whether with the query of the path; and whether spans of lives are.
     pub has_names: bool,
@@ -57,7 +56,7 @@ pub struct Made {
     pub courses: Courses,
     /// By the import's numbers.
     pub known: Vec<Option<Box<Known>>>,
-    /// Those numbers in the order of the report.
+    /// The import's numbers in the order of the report.
     pub order: Vec<usize>,
     pub files: Files,
     /// Files that end within a packet, and the number of that packet in each.
@@ -78,7 +77,7 @@ pub fn answer_of(asked: &ExplainOptions<'_>) -> Result<Answer, Failure> {
     }
 }
 
-/// The same; and writes the report of the original.
+/// Answers as [`answer_of`] does, and also writes the report of the original.
 pub fn answer_with_report(asked: &ExplainOptions<'_>, to: ReportTo<'_>) -> Result<(Answer, Reported), Failure> {
     let (made, keeping, audits, report) = match asked.report {
         Some(path) => {
@@ -184,8 +183,7 @@ fn answer_by(asked: &ExplainOptions<'_>, mut made: Made, audits: Audits) -> Resu
     Ok(answer)
 }
 
-/// Imports; and keeps what a report of the original needs, where that is wanted. What is made goes to where it is audited,
-/// if it is.
+/// Imports, and keeps what a report of the original needs, if one is wanted. What is made goes to where it is audited.
 fn make(asked: &ExplainOptions<'_>, keeps: bool, target: &mut dyn Target) -> Result<(Made, Option<Keeping>), Failure> {
     let mut listening = Listening { learning: Learning::new()?, keeping: keeps.then(Keeping::default) };
     let mut courses = Courses::default();

@@ -11,8 +11,8 @@ use crate::stream::{Direction, Stream};
 /// Flow control or TCP held a request back where it did so for 1 ms and for 1 % of its life, at least.
 pub const LEAST_HELD: Nanos = 1_000_000;
 const HELD_SHARE: i128 = 100;
-/// An application is named where it sent nothing for 10 ms and for a tenth of the request's life, at least; a path where
-/// a side sent for 10 ms and more than half of it.
+/// An application is named where it sent nothing for 10 ms and for a tenth of the request's life, at least; a path
+/// where a side sent for 10 ms and more than half of it.
 const LEAST_IDLE: Nanos = 10_000_000;
 const IDLE_SHARE: i128 = 10;
 
@@ -225,8 +225,8 @@ impl Held<'_> {
         }))
     }
 
-    /// Whether a window can be what holds back: it carries less in a round trip than twice the rate that was seen between
-    /// pauses, of all streams.
+    /// Whether a window can be what holds back: it carries less in a round trip than twice the rate that was seen
+    /// between pauses, of all streams.
     fn is_used(&self, side: usize, window: i64) -> bool {
         let beside = &self.stream.sides[side].beside;
         let round_trip = self.seen.about.round_trip.nanos().unwrap_or(0);
@@ -253,8 +253,8 @@ impl Held<'_> {
         longest((0..2).filter_map(of_side))
     }
 
-    /// A side that sent nothing though it had credit: between two frames, or before its first. Of a request that never
-    /// ended it is a side that did not end it, the client first, which opened it.
+    /// Names a side that sent nothing though it had credit, between two frames or before its first. If the request
+    /// never ended, it is a side that did not end it, the client first, which opened it.
     fn of_application(&self, named: &mut Vec<Cause>) {
         let before = named.len();
         for side in (0..2).filter(|side| self.ends[*side] != How::EndStream) {

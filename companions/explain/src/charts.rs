@@ -55,7 +55,7 @@ pub struct Choice {
     room: Room,
     /// So many more windows are shown of which no finding tells.
     left: Cell<usize>,
-    /// Those of which one does: by the connection's number in the report.
+    /// The windows of which a finding tells, by the connection's number in the report.
     troubled: HashSet<(u64, Key)>,
 }
 
@@ -106,7 +106,7 @@ impl Others {
 }
 
 impl Choice {
-    /// Those with trouble first: by faults, then by the time of their stalls.
+    /// Chooses windows with trouble first: by faults, then by the time of their stalls.
     pub fn of<'a>(audits: impl IntoIterator<Item = &'a Audit>) -> Rc<Choice> {
         let mut ranked: Vec<(Trouble, (u64, Key))> = audits.into_iter().flat_map(troubles).collect();
         ranked.sort_unstable();
@@ -205,7 +205,7 @@ impl Charts {
         }
     }
 
-    /// The windows of a stream, of which some are not shown.
+    /// Sees the windows of a stream, of which some are not shown.
     fn stream(&mut self, number: u32, left: &Left<'_>, is_opened: bool) {
         let Charts { number: connection, choice, streams, initials, others, .. } = self;
         let values = left.table.look(number, |stream| {
@@ -278,7 +278,7 @@ impl Charts {
 }
 
 impl Chart {
-    /// The credit that a frame left, and whether the window is live.
+    /// Takes the credit that a frame left, and whether the window is live.
     fn see(&mut self, (credit, is_live): (i64, bool), initials: &Series, at: At, room: &Room) {
         self.follow(initials, room);
         if self.series.last.map(|last| last.credit) != Some(credit) {

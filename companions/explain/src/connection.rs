@@ -49,7 +49,7 @@ pub struct WalkedConnection {
 }
 
 impl WalkedConnection {
-    /// Of what the import, the first walk and the report say.
+    /// Begins a connection, from what the import, the first walk and the report say of it.
     pub fn new(
         known: Box<Known>,
         audit: Audit,
@@ -149,7 +149,7 @@ impl WalkedConnection {
         Ok(ended(self, said))
     }
 
-    /// Of a stream that is over the packets of a frame whose rest did not come.
+    /// Adds the packets of a frame whose rest did not come to its stream, which is over.
     fn cut_frames(&mut self) {
         let Walk { table, about, signals, known, .. } = &mut self.walk;
         if known.back.is_some() {

@@ -43,7 +43,7 @@ fn data(stream: u32, more: u8, length: usize) -> Vec<u8> {
 struct Talk {
     records: Vec<(usize, Nanos, Vec<u8>)>,
     has_names: bool,
-    /// To the client and back.
+    /// The time from the place of capture to the client and back.
     way: Nanos,
     /// Whether the server's SYN ACK was captured behind all of them.
     is_late: bool,
@@ -237,7 +237,7 @@ fn promises_and_refusals() {
     promised_and_refused(2, How::GoAway);
 }
 
-/// A GOAWAY with this code, and what ends a stream that is not above its last one.
+/// Tells how a stream ends that is not above the last one of a GOAWAY with this code.
 fn promised_and_refused(code: u8, end: How) {
     let mut talk = Talk::new();
     talk.say(CLIENT, 20, &[headers(1, flag::END_STREAM, GET), headers(3, 0, GET)]);

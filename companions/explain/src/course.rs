@@ -17,7 +17,8 @@ pub struct SideCourse {
     pub unseen: Nanos,
     /// The connection's stalls and TCP.
     held: Marks,
-    /// The same as far as frames came, and stretches between them in which the side sent on some stream all the time.
+    /// What held back the side as far as frames came, and between that the stretches in which it sent on some stream
+    /// all the time.
     sent: Marks,
     /// The last packet, from when on these are known, and the next of what holds back that is not among them.
     sent_to: Nanos,
@@ -119,8 +120,8 @@ impl SideCourse {
         }
     }
 
-    /// Whether no frame of the side came in a stretch of time that is just over, but in its first and its last twentieth,
-    /// as an acknowledgement, or one that ends all. Of one that was over long before it is not known.
+    /// Whether no frame of the side came in a stretch of time that is just over, but in its first and its last
+    /// twentieth, as an acknowledgement, or one that ends all. Of older stretches that is not known.
     pub fn is_silent(&self, since: Nanos, until: Nanos) -> bool {
         let part = until.saturating_sub(since) / PART;
         let (begin, end) = (since.saturating_add(part), until.saturating_sub(part));

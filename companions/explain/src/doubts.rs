@@ -115,8 +115,8 @@ fn clock(files: &Files, one: &Older, packets: u64, left: Option<u64>) -> Warning
     if file > 1 && packet == 1 {
         let (name, before) = (files.name(file), files.name(file - 1));
         let text = format!(
-            "{name} begins {nanos} before {before} ends: the files overlap, or stand in the wrong order (mergecap puts them \
-             in order)"
+            "{name} begins {nanos} before {before} ends: the files overlap, or stand in the wrong order (mergecap puts \
+             them in order)"
         );
         return Warning { at, ..warning("files-out-of-order", text) };
     }
@@ -129,7 +129,8 @@ fn clock(files: &Files, one: &Older, packets: u64, left: Option<u64>) -> Warning
         None => help_for(one.nanos).to_string(),
     };
     let text = format!(
-        "times go back at packet {packet} by {nanos}{many}: what is said of order and of durations may be wrong ({help})"
+        "times go back at packet {packet} by {nanos}{many}: what is said of order and of durations may be wrong \
+         ({help})"
     );
     Warning { at, ..warning("times-go-back", text) }
 }
@@ -156,23 +157,33 @@ fn one_direction(answer: &Answer, summary: &Summary) -> Option<Warning> {
     Some(Warning { connection: some.first().map(|one| one.number), at, ..warning("one-direction", text) })
 }
 
+/// The verb behind a count.
+fn were(number: u64) -> &'static str {
+    match number {
+        1 => "was",
+        _ => "were",
+    }
+}
+
 /// Packets that were dropped while they were captured, as the files say; and those whose receiver had them.
 fn dropped(answer: &Answer, summary: &Summary) -> Vec<Warning> {
     let mut said = Vec::new();
     if summary.dropped > 0 {
-        let packets = count(summary.dropped, "packet");
-        let text = format!("{packets} were dropped while this was captured, as the capture says (tcpdump -B)");
+        let (packets, were) = (count(summary.dropped, "packet"), were(summary.dropped));
+        let text = format!("{packets} {were} dropped while this was captured, as the capture says (tcpdump -B)");
         said.push(warning("dropped", text));
     }
     let some: Vec<_> = answer.connections.iter().filter(|one| !one.uncaptured.is_empty()).collect();
     let of_sides = || some.iter().flat_map(|one| &one.uncaptured).map(|one| &one.1);
     let sum = |number: fn(&Uncaptured) -> u64| of_sides().map(number).sum::<u64>();
     if let Some(first) = some.first() {
-        let (bytes, connections) = (count(sum(|one| one.bytes), "byte"), count(some.len() as u64, "connection"));
+        let (bytes, connections) = (sum(|one| one.bytes), count(some.len() as u64, "connection"));
         let packets = count(sum(|one| one.packets), "packet");
         let text = format!(
-            "{bytes} of {connections} were acknowledged and never captured: {packets} or more were dropped while \
-             they were captured (tcpdump -B)"
+            "{} of {connections} {} acknowledged and never captured: {packets} or more were dropped while they were \
+             captured (tcpdump -B)",
+            count(bytes, "byte"),
+            were(bytes)
         );
         said.push(Warning { connection: Some(first.number), at: Some(first.opened), ..warning("dropped", text) });
     }
@@ -207,8 +218,8 @@ pub fn limits_of(round_trip: &RoundTrip, captured_at: Option<Place>, uses_window
         return Vec::new();
     }
     vec![format!(
-        "captured at the {}: a stall of the {} may not show, since what it uses up within the round trip of {} is granted \
-         again here before the credit seems to be 0",
+        "captured at the {}: a stall of the {} may not show, since what it uses up within the round trip of {} is \
+         granted again here before the credit seems to be 0",
         side_of(here),
         side_of(there),
         time_of(nanos)

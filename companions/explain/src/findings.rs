@@ -1,5 +1,5 @@
-//! What the report says of a connection, beside the walk over its frames: each finding stands at the frame that it names,
-//! and the credits that it tells are those that the walk counts.
+//! What the report says of a connection, beside the walk over its frames: each finding stands at the frame that it
+//! names, and the credits that it tells are those that the walk counts.
 
 use std::collections::HashMap;
 

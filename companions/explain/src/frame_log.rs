@@ -1,5 +1,5 @@
-//! What the first walk found, for the second one: the frames that each record completed, with the bytes of their payloads
-//! that are wanted, in a file without a name. It is read in less time than the capture that is made.
+//! What the first walk found, for the second one: the frames that each record completed, with the bytes of their
+//! payloads that are wanted, in a file without a name. It is read in less time than the capture that is made.
 
 mod places;
 
@@ -13,13 +13,13 @@ use crate::answer::{At, Nanos};
 use crate::cutter::{flag, kind, Cut, Head, HEADER};
 use crate::frame_log::places::{four_at, number_at, taken_from_end, Place};
 
-/// Of a field block so much is wanted: enough to see that it is too long.
+/// How many bytes of a field block are wanted: enough to see that it is too long.
 const MOST_FIELDS: usize = hpack::LONGEST_BLOCK + 512;
 const MOST_GOAWAY: usize = 8 + 1024;
 const PING: usize = 8;
 
-/// An entry begins with numbers of so many bytes in all: the length of what stands behind them, with two flags; who sent
-/// it; and by how much its record, its packet and its time are above those of the entry before.
+/// An entry begins with numbers of so many bytes in all: the length of what stands behind them, with two flags; who
+/// sent it; and by how much its record, its packet and its time are above those of the entry before.
 const FRONT: usize = 16;
 /// Whether these are too far above them: then they stand at the end.
 const IS_FAR: u32 = 1 << 31;
@@ -29,7 +29,7 @@ const IS_MORE: u32 = 1 << 30;
 const MORE: usize = 8;
 const TIME: usize = 8;
 const BYTES: usize = 4;
-/// Of an entry with a segment that could not be placed, in the place of a stream.
+/// Stands in the place of a stream in an entry whose segment could not be placed.
 const UNPLACED: u32 = u32::MAX;
 
 /// How much of a payload both walks want.

@@ -1,5 +1,4 @@
-//! Connections that began before the capture (docs/WHY.md, 13): which findings of their reports are claimed, and how sure
-//! each is.
+//! Which findings are claimed of connections that began before the capture, and how sure each is (docs/WHY.md, 13).
 
 use import::{Courses, Fate, Unopened};
 pub use joined::{assumed_of, sure_of, Sure};
@@ -16,8 +15,8 @@ use crate::beginning::Doubtful;
 pub struct JoinedSaid {
     pub how: How,
     pub behind: Behind,
-    /// What is assumed of windows, in the order in which [`Inferred`] has them; and when something may have waited for one
-    /// that was not seen to be used up.
+    /// What is assumed of windows, in the order in which [`Inferred`] has them; and when something may have waited for
+    /// one that was not seen to be used up.
     pub windows: Vec<(Assumed, Doubtful)>,
 }
 

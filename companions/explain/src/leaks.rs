@@ -41,7 +41,7 @@ struct GoingOn {
     granted: u64,
     /// Content of streams that go on, not granted again there.
     unread: u64,
-    /// Of each stream that was not reset: its content, and what of it counts as unread.
+    /// For each stream that was not reset, its content, and what of it counts as unread.
     live: HashMap<u32, (u64, u64)>,
 }
 

@@ -33,16 +33,16 @@ pub struct Known {
     pub initials: [Option<u32>; 2],
     /// Whether it is HTTP/2 that can be read.
     pub is_http2: bool,
-    /// The record that came first past bytes of a side that are missing; and the one that brought its last byte in order.
+    /// The record that came first past a side's missing bytes, and the one that brought its last byte in order.
     pub gaps: [Option<Arrival>; 2],
     pub arrivals: [u64; 2],
     pub frames: u32,
     /// How many frames were made up, and how many bytes of each side, of one that began before the capture.
     pub made: u32,
     pub made_bytes: [u64; 2],
-    /// Of each side the stream of a frame whose rest did not come, and when its packets came.
+    /// For each side, the stream of a frame whose rest did not come, and when its packets came.
     pub cuts: [Option<(u32, Box<[Nanos]>)>; 2],
-    /// Of these frames how much came when.
+    /// For each side, what came of such a frame, and when.
     pub partial: [Option<Box<Partial>>; 2],
     /// The quickest reactions of each side to what the other one sends.
     pub quickest: [Quickest; 2],
@@ -229,7 +229,7 @@ impl Learned {
 pub struct Learning {
     /// By the import's numbers.
     pub connections: Vec<Option<Box<Learned>>>,
-    /// Those numbers in the order of the records that open connections, which is h2audit's.
+    /// The import's numbers in the order of the records that open connections, which is h2audit's.
     pub order: Vec<usize>,
     pub files: Files,
     pub addresses: Addresses,

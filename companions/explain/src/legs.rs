@@ -1,5 +1,5 @@
-//! Both legs of a proxy (docs/WHY.md, 14): which back request carried which front one, whose each instant was, and what was
-//! passed on.
+//! Both legs of a proxy: which back request carried which front one, whose each instant was, and what was passed on
+//! (docs/WHY.md, 14).
 
 mod account;
 #[cfg(test)]

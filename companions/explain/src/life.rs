@@ -37,7 +37,7 @@ pub struct Life {
     /// How many spans it has; and the share of the last one.
     pub count: u16,
     pub last: Share,
-    /// Those spans, where they were asked for.
+    /// The spans, where they were asked for.
     pub spans: Option<Vec<Span>>,
 }
 
@@ -97,7 +97,7 @@ impl Life {
         self.at = until;
     }
 
-    /// The stretch before its first frame.
+    /// Divides the stretch before its first frame.
     #[inline(never)]
     fn wait(&mut self, holding: &Holding<'_>, begin: Nanos, end: Nanos) {
         let mut begin = begin;
@@ -110,13 +110,13 @@ impl Life {
         self.wait_free(begin, end, turn);
     }
 
-    /// A stretch before its first frame in which TCP held nothing back.
+    /// Divides a stretch before its first frame in which TCP held nothing back.
     fn wait_free(&mut self, begin: Nanos, end: Nanos, turn: Nanos) {
         self.put(begin, end.min(turn), Share::Waiting);
         self.put(begin.max(turn), end, Share::Others);
     }
 
-    /// A stretch between two frames.
+    /// Divides a stretch between two frames.
     #[inline(always)]
     fn pause(&mut self, holding: &Holding<'_>, begin: Nanos, end: Nanos, is_within: bool) {
         match holding.stalls.is_empty() {
@@ -145,7 +145,7 @@ impl Life {
         self.between(holding.course, begin, end, is_within);
     }
 
-    /// A stretch without frames, and without a stall of the stream.
+    /// Divides a stretch without frames, and without a stall of the stream.
     #[inline(always)]
     fn between(&mut self, course: &SideCourse, begin: Nanos, end: Nanos, is_within: bool) {
         if begin >= end {
@@ -174,7 +174,7 @@ impl Life {
         self.put(seen, end, if is_pause { Share::Sending } else { Share::Unseen });
     }
 
-    /// A stretch of some length by marks: its spans, as far as they are told, and the rest as sums.
+    /// Divides a stretch of some length by marks: into spans, as far as they are told, and the rest as sums.
     fn by_marks(&mut self, marks: &Marks, begin: Nanos, end: Nanos, is_within: bool) {
         let long = if is_within { Share::Tcp } else { Share::Idle };
         let mut told_to = begin;

@@ -1,5 +1,5 @@
-//! Stretches of time with what they are, in order and without overlap; what lies between them is free: a pause as between
-//! packets, or a longer one.
+//! Stretches of time with what they are, in order and without overlap; what lies between them is free: a pause as
+//! between packets, or a longer one.
 
 use crate::answer::{Nanos, Share, Shares};
 
@@ -31,7 +31,7 @@ impl Marks {
         Marks { pause, marked: Vec::new() }
     }
 
-    /// Of stretches in order and without overlap.
+    /// Marks stretches that are in order and do not overlap.
     pub fn of(pause: Nanos, stretches: impl Iterator<Item = (Nanos, Nanos, Share)>) -> Marks {
         let mut marks = Marks::new(pause);
         stretches.for_each(|(begin, end, share)| marks.push(begin, end, share));
@@ -142,7 +142,7 @@ impl Marks {
         }
     }
 
-    /// From a free moment on, from one stretch to another, of which the last may go on past the end.
+    /// Measures from a free moment on, over stretches, of which the last may go on past the end.
     fn measure_over(&self, begin: Nanos, end: Nanos, first: &Marked, last: &Marked, shares: &mut Shares) {
         shares[self.free(begin, first.begin) as usize] += first.begin - begin;
         for (at, share) in SUMMED.into_iter().enumerate() {
@@ -155,8 +155,8 @@ impl Marks {
         }
     }
 
-    /// The same, one span after the other, as long as the taker wants more; within a frame one for each run. Answers
-    /// where it stopped.
+    /// Divides a stretch in which nothing was sent into spans, one after the other, as long as the taker wants more; a
+    /// run within a frame is one span. Answers where it stopped.
     pub fn spans(
         &self,
         begin: Nanos,

@@ -47,7 +47,7 @@ impl Interner {
         number
     }
 
-    /// Of bytes that are never told: the same for the same ones, and not 0.
+    /// Hashes bytes that are never told: equal bytes have the same hash, which is not 0.
     pub fn hash(&self, octets: &[u8]) -> u64 {
         let mut hasher = self.numbers.hasher().build_hasher();
         octets.hash(&mut hasher);

@@ -49,7 +49,7 @@ pub fn unpack(bytes: &[u8], round_trip: Nanos, has_spans: bool, stream: &mut Str
     unpack_lives(bytes, stream.opened.time, has_spans, stream);
 }
 
-/// Reads one of which no cause is sought; without what only causes are told from, where both its lives are divided up to
+/// Reads a stream of which no cause is sought, without what only causes need, where both its lives are divided up to
 /// their ends.
 pub fn unpack_uncaused(bytes: &[u8], round_trip: Nanos, stream: &mut Stream) {
     let mut unpacker = unpacked_outline(bytes, stream);

@@ -1,5 +1,5 @@
-//! How quickly each side reacts to what the other one sends (docs/WHY.md, 5): by PING, SETTINGS, first answers, and what
-//! credit forces: a grant says that content has come, and what goes past a limit says that a grant has.
+//! How quickly each side reacts to what the other one sends (docs/WHY.md, 5): by PING, SETTINGS, first answers, and
+//! what credit forces: a grant says that content has come, and what goes past a limit says that a grant has.
 
 use std::collections::{HashMap, VecDeque};
 
@@ -14,8 +14,8 @@ const MOST_PINGS: usize = 1 << 16;
 pub const MOST_UNANSWERED: usize = 8;
 /// So many SETTINGS of a side that wait are kept; of more it is known how many.
 const MOST_SETTINGS: usize = 4096;
-/// So many streams are watched at once, and of a connection in all; of each window so many frames of content, and grants,
-/// that wait.
+/// So many streams are watched at once, and in all of a connection; so many frames of content and grants wait of each
+/// window.
 const MOST_WATCHED: usize = 8;
 const MOST_STREAMS: u32 = 256;
 const MOST_WAITING: usize = 8;
@@ -25,7 +25,7 @@ const PING: usize = 8;
 /// with one that took less.
 pub const LEAST_REACTION: Nanos = 10_000_000;
 
-/// To what a side reacted.
+/// What a side reacted to.
 #[derive(Clone, Copy, Debug, PartialEq, Eq)]
 pub enum Reaction {
     Ping,
@@ -38,8 +38,8 @@ pub enum Reaction {
     Answer,
 }
 
-/// The quickest reactions of a side, the least first, each with the time at which it began; where these are of one kind,
-/// the quickest of another one; and how long the first took.
+/// The quickest reactions of a side, the least first, each with the time at which it began; where these are of one
+/// kind, the quickest of another one; and how long the first took.
 #[derive(Clone, Copy, Debug, Default, PartialEq, Eq)]
 pub struct Quickest {
     pub least: [Option<(Nanos, Nanos, Reaction)>; 3],
@@ -71,7 +71,7 @@ impl Quickest {
         one.filter(|_| one == two && two == three)
     }
 
-    /// One is not among the least, which are all of a kind.
+    /// Takes note that one is not among the least, which are all of a kind.
     fn left(&mut self, one: (Nanos, Nanos, Reaction), kind: Reaction) {
         self.other = self.other.filter(|other| other.2 != kind);
         if one.2 != kind && self.other.map_or(true, |other| one.0 < other.0) {
@@ -234,7 +234,7 @@ impl Reactions {
         }
     }
 
-    /// No more is looked for.
+    /// Looks for no more.
     fn settle(&mut self) {
         self.is_settled = true;
         self.pings = None;
@@ -251,7 +251,7 @@ impl Reactions {
         }
     }
 
-    /// A side acknowledges the oldest SETTINGS of the other one. Of those that were not kept any initial window may be in
+    /// A side acknowledges the oldest SETTINGS of the other one. If these were not kept, any initial window may be in
     /// force.
     fn acknowledge(&mut self, side: usize, began: Nanos) {
         let other = 1 - side;

@@ -1,4 +1,4 @@
-//! The report of h2audit on what was made: of a run of it, or one that is there; and the same about the original.
+//! The report of h2audit on what was made, of a run of it or one that is there; and the report on the original.
 
 use std::ffi::OsStr;
 use std::fs::File;

@@ -16,7 +16,7 @@ use crate::stream::{self, RequestFields, Stream};
 /// The requests of a connection, in the order of their openings.
 #[derive(Clone, Debug, Default)]
 pub struct Requests {
-    /// Those that are told from nothing else.
+    /// Requests that are told from nothing else.
     all: Vec<Request>,
     packed: Option<Rc<(Packed, Seen)>>,
     texts: Option<Rc<Texts>>,
@@ -47,7 +47,7 @@ impl Requests {
         Requests { all: Vec::new(), packed: Some(packed), texts: None, most: None }
     }
 
-    /// Those are left out that were opened from this packet on.
+    /// Leaves out the requests that were opened from this packet on.
     pub fn end_before(&mut self, packet: u64) {
         let is_before = |index: usize| self.get(index).map_or(false, |request| request.opened.packet < packet);
         let (mut least, mut most) = (0, self.len());
@@ -151,7 +151,7 @@ impl Requests {
         (0..self.len()).filter_map(move |index| self.tell(index, Wanted::All, &mut room, |request| request))
     }
 
-    /// Tells of those of these places, one after the other. Of those that are known to have no cause none is sought.
+    /// Tells of the requests at these places in turn, and seeks no cause of those that are known to have none.
     pub fn each_at<E>(
         &self,
         places: impl Iterator<Item = usize>,
@@ -193,13 +193,13 @@ pub struct Packed {
     /// Bytes that hold nothing any more.
     idle: usize,
     round_trip: Nanos,
-    /// Of each what hops are sought by, where it is wanted.
+    /// What hops are sought by, of each stream; none where no hops are sought.
     briefs: Option<RefCell<Vec<Brief>>>,
 }
 
 /// So many bytes most streams take.
 const USUAL: usize = 128;
-/// Of a stream that is not packed yet.
+/// The place of a stream that is not packed yet.
 const NOWHERE: (u64, u32) = (u64::MAX, 0);
 
 impl Packed {
@@ -228,8 +228,7 @@ impl Packed {
         }
     }
 
-    /// Puts a stream in its place among those that were opened: behind all others, or where it stood before if it fits in
-    /// there.
+    /// Puts a stream in its place in order of opening: behind all others, or where it stood before if it fits there.
     pub fn put(&mut self, stream: &Stream) {
         self.put_brief(stream);
         let behind = self.bytes.len();
@@ -289,7 +288,7 @@ impl Packed {
         self.bytes.get(begin as usize..)?.get(..length as usize)
     }
 
-    /// No more come.
+    /// Ends the list: no more come.
     pub fn end(&mut self) {
         self.bytes.shrink_to_fit();
         self.places.shrink_to_fit();

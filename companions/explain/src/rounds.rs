@@ -1,4 +1,4 @@
-//! The round trip of a connection and the place where it was captured, by the times of acknowledgements and reactions (docs/WHY.md, 5).
+//! The round trip and the place of capture, by times of acknowledgements and reactions (docs/WHY.md, 5).
 
 use crate::answer::Nanos;
 use crate::reactions::{Quickest, LEAST_REACTION};

@@ -1,5 +1,5 @@
-//! What is known of a connection before its streams are told: by the import, the first walk and the report; and what the
-//! second walk adds to it.
+//! What is known of a connection before its streams are told: by the import, the first walk and the report; and what
+//! the second walk adds to it.
 
 use std::collections::HashMap;
 use std::rc::Rc;
@@ -110,7 +110,7 @@ pub struct WindowStalls {
 pub struct Seen {
     pub about: Box<About>,
     pub windows: OfWindows<WindowStalls>,
-    /// Of each side the GOAWAY with the lowest last stream; and the first one with an error.
+    /// The GOAWAY of each side that has the lowest last stream; and the first GOAWAY with an error.
     pub refusing: [Option<Refusal>; 2],
     pub error: Option<Ended>,
     /// The most credit of the connection's windows; and what was granted of them before the first content, or is not
@@ -136,7 +136,7 @@ const REASONS: [StallWhy; 6] = [
 ];
 
 impl WindowStalls {
-    /// Of all stalls of a connection, by window.
+    /// Sorts the stalls of a connection by their windows.
     pub fn by_window(stalls: &[StallSaid]) -> OfWindows<WindowStalls> {
         let mut found: HashMap<Key, Vec<StallSaid>> = HashMap::new();
         for one in stalls {
@@ -175,7 +175,7 @@ impl Seen {
         !is_shown && self.about.lost <= until
     }
 
-    /// Whether what a side sends on a stream may have waited for a window in some stretch of time, though no stall is known.
+    /// Whether what a side sends on a stream may have waited for a window in a stretch of time without a known stall.
     pub fn may_wait(&self, side: usize, stream: u32, (begin, end): Interval) -> bool {
         let inferred = match &self.about.inferred {
             Some(inferred) => inferred,

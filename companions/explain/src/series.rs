@@ -36,7 +36,7 @@ impl Room {
         self.limit.get()
     }
 
-    /// One more point is kept. A quarter of the room more halves what a window may have.
+    /// Takes room for one more point. A quarter of the room more halves what a window may have.
     fn take(&self) {
         self.taken.set(self.taken.get() + 1);
         if self.taken.get() > self.most && self.limit.get() > FEWEST {
@@ -112,7 +112,7 @@ impl Series {
         Series { before: Some(before), ..Series::default() }
     }
 
-    /// A point before all others.
+    /// Begins with a point before all others.
     pub fn begin(&mut self, point: Point) {
         self.ends[0] = Some(point);
     }
@@ -123,7 +123,7 @@ impl Series {
         self.ends[1] = last.map(|last| Point { frame: frames.max(last.frame), time: until, ..last });
     }
 
-    /// The credit is another one.
+    /// Adds a point: the credit is another one.
     pub fn push(&mut self, point: Point, room: &Room) {
         self.count(point);
         self.await_no_longer(point);

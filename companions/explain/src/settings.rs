@@ -35,8 +35,7 @@ struct InForce {
     changes: Changes,
 }
 
-/// The frames that acknowledge an initial window, and which of those told it is; the first one that is not told, and none
-/// behind it.
+/// The frames that acknowledge an initial window, with the places of those that are told, up to the first that is not.
 pub type Changes = Vec<(u32, Option<u32>)>;
 
 /// What SETTINGS say; of several values the last one counts.
@@ -77,7 +76,7 @@ pub struct AtFault {
 impl Settings {
     /// A side sent SETTINGS.
     pub fn sent(&mut self, side: usize, at: At, values: [Option<u32>; 3]) {
-        // Those that were made up have no frame.
+        // SETTINGS that were made up have no frame.
         let is_told = self.count < MOST_TOLD && at.frame > 0;
         self.count = self.count.saturating_add(1);
         let queue = &mut self.queues[side];
@@ -92,7 +91,7 @@ impl Settings {
         queue.push(at, values, told);
     }
 
-    /// A side acknowledges the oldest SETTINGS of the other that wait. Answers the initial window that counts from here.
+    /// A side acknowledges the oldest SETTINGS of the other that wait. Answers the initial window that counts now.
     pub fn acknowledged(&mut self, side: usize, at: At) -> Option<u32> {
         let announced = self.queues[1 - side].acknowledged()?;
         let now = &mut self.in_force[side];
@@ -120,7 +119,7 @@ impl Settings {
         }
     }
 
-    /// The SETTINGS whose initial window is in force for a side: its value, where they stand, and their acknowledgement.
+    /// The SETTINGS whose initial window is in force for a side: its value, their place, and their acknowledgement.
     pub fn initial_window(&self, side: usize) -> Option<(u32, At, At)> {
         self.in_force[side].window
     }

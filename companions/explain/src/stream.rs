@@ -146,7 +146,7 @@ impl Stream {
         self.sides.iter().all(|side| side.end.is_some())
     }
 
-    /// Notes of which sides it had more content than its window held at once, so that they may have waited, if it is over.
+    /// Notes, if it is over, of which sides it had more content than a window held, so that they may have waited.
     #[inline]
     pub fn note_use(&self, uses: &mut [bool; 2]) {
         if self.is_over() {
@@ -154,7 +154,7 @@ impl Stream {
         }
     }
 
-    /// The same of a stream that ends here.
+    /// Notes of a stream that ends here which sides had more content than their windows held at once.
     pub fn note_content(&self, uses: &mut [bool; 2]) {
         for (side, uses) in self.sides.iter().zip(uses) {
             let window = side.window.largest.unwrap_or(0);
@@ -275,7 +275,7 @@ impl Direction {
         }
     }
 
-    /// The same where times go back, from its beginning.
+    /// Divides its whole life from what was kept of its frames, where times go back.
     pub fn finish_kept(&mut self, holding: &Holding<'_>, opened: Nanos, until: Nanos, cut: Option<&[Nanos]>) {
         let kept = self.kept.take().unwrap_or_default();
         let holding = &Holding { asked: self.asked.time, ..*holding };
@@ -336,12 +336,12 @@ impl Direction {
         }
     }
 
-    /// No more is counted.
+    /// Ends what is counted beside it.
     pub fn end_beside(&mut self) {
         self.beside = Beside { before: 0, active_before: 0, ended: 0, ..self.beside };
     }
 
-    /// The same as it sends content.
+    /// Counts what its side has sent in all, as this direction sends content.
     #[inline]
     pub fn beside(&mut self, total: &mut Total, times: &[Nanos], length: u32, pause: Nanos) {
         self.begin_beside(total);

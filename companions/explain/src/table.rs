@@ -1,5 +1,5 @@
-//! The streams of a connection: those that go on, and those that are over, which are packed. Where very many go on, those
-//! of which nothing came for long are packed too.
+//! The streams of a connection: those that go on, and those that are over, which are packed. Where very many go on,
+//! those of which nothing came for long are packed too.
 
 use std::cell::Cell;
 use std::cmp::Reverse;
@@ -16,7 +16,7 @@ use crate::windows::Initial;
 #[derive(Debug)]
 pub struct Table {
     live: Live,
-    /// Those that go on, and are packed; and by sides their highest credits, where these are known.
+    /// Streams that go on, and are packed; and by sides their highest credits, where these are known.
     parked: HashSet<u32, Numbers>,
     parked_highest: Cell<[Option<Highest>; 2]>,
     /// How many are not packed, of all connections.
@@ -25,7 +25,7 @@ pub struct Table {
     orders: Orders,
 }
 
-/// Streams that are not packed, in no order. Of frames in a row many are of one stream: the last one that was asked for
+/// Streams that are not packed, in no order. Many frames in a row are of one stream, so the last one that was asked for
 /// is found at once. Where many go on, most are found without a hash.
 #[derive(Debug)]
 struct Live {
@@ -111,7 +111,7 @@ impl Live {
         self.streams.get(self.place_of(number)? as usize).map(|stream| &**stream)
     }
 
-    /// A new one.
+    /// Opens a new one.
     fn open(&mut self, stream: Stream) {
         let stream = match self.spare.take() {
             Some(mut room) => {
@@ -296,7 +296,7 @@ impl Table {
         }
     }
 
-    /// Those that go on, in no order.
+    /// Gives each stream that goes on, in no order.
     pub fn each_going_on(&self, mut take: impl FnMut(&Stream)) {
         self.live.streams.iter().for_each(|stream| take(stream));
         let parked = self.parked.iter().filter_map(|number| self.orders.of(*number));

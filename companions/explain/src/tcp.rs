@@ -18,7 +18,7 @@ pub struct Tcp {
     closes: Box<[(At, How, usize)]>,
     /// The connection's last packet.
     pub last: At,
-    /// By the side that sends it.
+    /// What TCP held back, by the side that sends it.
     held: [Option<Box<HeldBack>>; 2],
     again: Vec<Again>,
 }
@@ -26,7 +26,7 @@ pub struct Tcp {
 /// What TCP held back of one side.
 #[derive(Debug)]
 struct HeldBack {
-    /// In the order of begins; and the same as sums.
+    /// The stretches in the order of their begins, and their sums.
     all: Vec<Held>,
     sums: Stretches<u8>,
     /// What was sent again, or came late, in the order of ends.
@@ -131,7 +131,7 @@ impl Tcp {
 }
 
 impl HeldBack {
-    /// Of a side's stretches in the order of ends, in a connection with this last packet.
+    /// Sums up a side's stretches, which come in the order of their ends, in a connection with this last packet.
     fn of<'a>(held: impl Iterator<Item = &'a Held>, last: Nanos) -> Option<Box<HeldBack>> {
         let mut all: Vec<Held> = held.copied().collect();
         if all.is_empty() {

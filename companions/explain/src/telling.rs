@@ -1,5 +1,6 @@
 //! Says what became of each connection, and walks over the frames of those that were audited.
 
+mod at_first;
 mod roots;
 
 use std::collections::HashSet;
@@ -8,12 +9,10 @@ use std::rc::Rc;
 use import::{Became, Courses, Fate, Summary};
 use joined::Inferred;
 use programs::{temporary_failure, Failure, Progress};
-use reports::Form;
 
 use crate::across::{root_of, Across};
 use crate::answer::{
-    Answer, At, Behind, Certainty, ChartsSaid, ConnectionSaid, Ended, How as Ending, JoinedHow as How, JoinedSaid,
-    Outcome, Requests, RoundTrip,
+    Answer, At, Certainty, ChartsSaid, ConnectionSaid, Ended, How as Ending, Outcome, Requests, RoundTrip,
 };
 use crate::audit::{broken, Audit, Audits};
 use crate::blocks::Names;
@@ -29,6 +28,7 @@ use crate::side_of;
 use crate::spoken::{note_of, reason_of};
 use crate::tcp::last_of;
 use crate::walk::Asking;
+use at_first::{how_joined, outcome_of, say_flows, say_refused};
 use cutter::Numbers;
 use roots::{behind, tell_faults_once, Roots};
 
@@ -248,10 +248,7 @@ fn said_at_first(
     }
     let (client, server) = made.addresses.endpoints(&outcome.ends);
     let mut said = unsaid(audit.number, client, server, known.opened);
-    let joined = made.summary.joined.binary_search_by_key(&number, |one| one.connection).ok();
-    let joined = joined.and_then(|at| made.summary.joined.get(at));
-    let said_of = |how: &How| JoinedSaid { how: how.clone(), behind: Behind::No, windows: Vec::new() };
-    said.joined = joined.map(|one| Box::new(said_of(&one.how)));
+    said.joined = how_joined(&made.summary, number).map(Box::new);
     let inferred = said.joined.as_ref().and_then(|joined| joined.inferred()).cloned().map(Rc::new);
     let is_sound = match &inferred {
         Some(inferred) => without_beginning(&mut audit, inferred)?,
@@ -265,37 +262,14 @@ fn said_at_first(
     said.until = last_of(course, known.last).time;
     match &outcome.became {
         Became::Refused(why) => {
-            said.opened.time = course.syn.nanos;
-            said.begin = course.syn.nanos;
-            said.outcome = Outcome::Refused;
-            let no_handshake = Some(Outcome::NoHandshake).filter(|outcome| why.to_string() == outcome.name());
-            let shown = no_handshake.and_then(|outcome| reason_of(outcome, course, spoken));
-            said.reason = shown.map_or_else(|| why.to_string(), str::to_string);
-            said.frames = 0;
+            say_refused(&mut said, &why.to_string(), course, spoken);
             return Ok((said, None));
         }
         Became::Clear => {}
         became => said.tls = became.words().strip_prefix("tls ").unwrap_or_default().to_string(),
     }
-    for flow in &mut audit.flows {
-        let made = known.made_bytes[flow.side as usize];
-        flow.bytes = flow.bytes.saturating_sub(made);
-        flow.gap = flow.gap.map(|offset| offset.saturating_sub(made));
-    }
-    said.gaps = audit.gaps().collect();
-    said.flows = std::mem::take(&mut audit.flows);
-    said.flows.shrink_to_fit();
-    for flow in &mut said.flows {
-        flow.tail = flow.tail.saturating_add(outcome.became.cut_bytes(flow.side as usize));
-        flow.end = inferred.as_ref().and_then(|_| outcome.became.special_end(flow.side as usize));
-    }
-    said.outcome = match &audit.form {
-        Form::Http2 { .. } => Outcome::Http2,
-        Form::NotHttp2 => Outcome::NotHttp2,
-        Form::NoPreface => Outcome::NoPreface,
-        Form::NoHandshake => Outcome::NoHandshake,
-        Form::Refused(_) => return Err(other()),
-    };
+    say_flows(&mut said, &mut audit, known.made_bytes, &outcome.became);
+    said.outcome = outcome_of(&audit.form).ok_or_else(other)?;
     said.reason = reason_of(said.outcome, course, spoken).unwrap_or_default().to_string();
     if !is_sound {
         (said.outcome, said.reason) = (Outcome::NoPreface, NO_BEGINNING.to_string());

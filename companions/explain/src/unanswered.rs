@@ -1,5 +1,5 @@
-//! Settings that would take a window of the other side too high if they counted where they stand: what the capture shows,
-//! and the report cannot say by its rules (docs/WHY.md, 7).
+//! Settings that would take a window of the other side too high if they counted where they stand: what the capture
+//! shows, and the report cannot say by its rules (docs/WHY.md, 7).
 
 use reports::grouped;
 
@@ -122,7 +122,7 @@ impl Unanswered {
         }
     }
 
-    /// The other side's last SETTINGS, not acknowledged yet, may have been sent before grants that make the credit too high.
+    /// The other side may have sent its last, unacknowledged SETTINGS before grants that make the credit too high.
     fn granted_since(&mut self, side: usize, stream: &Stream, initial: &Initial) {
         let announcing = 1 - side;
         let waiting = self.last[announcing].filter(|one| one.0 >= self.answered[announcing]);
@@ -236,9 +236,10 @@ mod tests {
         unanswered.goaway(1, at(7), 0);
         assert!(unanswered.said(false).is_empty(), "no error");
         unanswered.reset(1, at(8), FLOW_CONTROL_ERROR, (&stream(1), &Initial::default()));
-        let said = "the client's SETTINGS in packet 50 set an initial window of 2,147,482,648, which would take the server's \
-                    credit on stream 1 from 66,535 to 2,147,483,648, above 2^31 - 1 (RFC 9113, 6.9.2); the server \
-                    acknowledged them in packet 70, and answered by RST_STREAM FLOW_CONTROL_ERROR on stream 1 in packet 80";
+        let said = "the client's SETTINGS in packet 50 set an initial window of 2,147,482,648, which would take the \
+                    server's credit on stream 1 from 66,535 to 2,147,483,648, above 2^31 - 1 (RFC 9113, 6.9.2); the \
+                    server acknowledged them in packet 70, and answered by RST_STREAM FLOW_CONTROL_ERROR on stream 1 \
+                    in packet 80";
         assert_eq!(unanswered.said(false), [said]);
         assert!(unanswered.said(true).is_empty());
     }

@@ -1,5 +1,5 @@
-//! SETTINGS of a side that wait for their acknowledgement: the last ones as they are, and those before them packed, in some
-//! dozen bytes each, since a peer may leave any number of them without an answer.
+//! SETTINGS of a side that wait for their acknowledgement: the last ones as they are, and those before them packed, in
+//! some dozen bytes each, since a peer may leave any number of them without an answer.
 
 use std::collections::VecDeque;
 
@@ -20,7 +20,7 @@ pub struct Waiting {
     pub told: Option<u32>,
 }
 
-/// Those of a side that wait, the oldest first.
+/// The streams of a side that wait, the oldest first.
 #[derive(Debug, Default)]
 pub struct Queue {
     /// The oldest one, once it was looked at; those behind it; and the last ones, so many as are looked at.
@@ -32,12 +32,12 @@ pub struct Queue {
 }
 
 impl Queue {
-    /// SETTINGS that say none of the kinds.
+    /// Adds SETTINGS that say none of the kinds.
     pub fn push_other(&mut self) {
         self.others += 1;
     }
 
-    /// SETTINGS that say some, where their initial window is told, if it is.
+    /// Adds SETTINGS that say some, with the place where their initial window is told, if it is.
     pub fn push(&mut self, at: At, values: [Option<u32>; 3], told: Option<u32>) {
         let others = std::mem::take(&mut self.others);
         self.last.push_back(Waiting { others, at, values, told });
@@ -75,7 +75,7 @@ fn waiting_of((at, [others, told, a, b, c]): (At, [Option<u32>; 5])) -> Waiting 
 mod tests {
     use super::*;
 
-    /// SETTINGS of which every third says nothing.
+    /// Adds SETTINGS, of which every third say nothing.
     fn push(queue: &mut Queue, number: u32) {
         let at = At { packet: u64::from(number) * 3, time: i64::from(number) * 1_000_000, frame: number };
         match number % 3 {

@@ -35,7 +35,7 @@ const STREAM: u32 = (1 << 31) - 1;
 const GOAWAY_FIELDS: usize = 8;
 /// So many stretches in which a side sent are kept; more are where a stream goes on from before all of them.
 pub const MOST_KEPT: usize = 1024;
-/// Of so many streams that are not opened yet, so many grants are remembered.
+/// How many streams that are not opened yet have their grants remembered, and how many grants each.
 const MOST_EARLY: usize = 256;
 
 /// What is asked of all connections.
@@ -87,7 +87,7 @@ pub struct Walk {
     pub charts: Option<Box<Charts>>,
     /// What was made up of a connection that began before the capture, and whether a frame of each side was captured.
     pub beginning: Option<Box<Beginning>>,
-    /// Of streams that were open across a gap, what their requests asked for.
+    /// What the requests of streams that were open across a gap asked for.
     pub asked_before: HashMap<u32, RequestFields>,
     pub has_frames: [bool; 2],
 }
@@ -144,7 +144,7 @@ impl Walk {
         self.after(frame)
     }
 
-    /// A frame of a kind that is rare beside those of DATA and WINDOW_UPDATE.
+    /// Takes a frame of a kind that is rare beside DATA and WINDOW_UPDATE.
     #[inline(never)]
     fn other(&mut self, asking: &mut Asking, frame: &Frame<'_>) {
         match frame.cut.head.kind {
@@ -201,8 +201,7 @@ impl Walk {
         charts.iter_mut().for_each(|charts| charts.after(&left));
     }
 
-    /// Divides what is left of the lives of a stream that is over, and packs it. A frame of it that has begun belongs to
-    /// its life.
+    /// Divides what is left of the lives of a stream that is over, and packs it. A frame that has begun belongs to it.
     #[inline(never)]
     fn settle(&mut self, number: u32) {
         let Walk { table, about, begun, .. } = self;

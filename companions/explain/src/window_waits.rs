@@ -19,7 +19,7 @@ struct Waits {
     stalls: HashMap<(Side, u32), StallSums>,
     /// The streams that waited for the connection's window, by the side that sends.
     waited: [Vec<u32>; 2],
-    /// Those among them without content, and up to when they lasted.
+    /// The streams among them without content, and up to when they lasted.
     silent: [Vec<(u32, Nanos)>; 2],
 }
 

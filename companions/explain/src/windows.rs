@@ -41,7 +41,7 @@ pub struct CountedWindow {
     pub is_live: bool,
     /// Whether it ever was.
     pub was_live: bool,
-    /// Beside the initial window in force while it is live; then what it was at its end.
+    /// Its credit without the initial window in force, while it is live; then what it was at its end.
     pub credit: i64,
     /// The most credit from before the first content on, up to a change of the initial window.
     pub largest: Option<i64>,

@@ -102,7 +102,7 @@ pub fn put_time(text: &mut String, nanos: Nanos) {
     text.push_str(unit);
 }
 
-/// So many parts of which so many are a whole, without zeros at the end.
+/// Writes so many parts, of which so many are a whole, without zeros at the end.
 fn put_fraction(text: &mut String, parts: u64, power: u64) {
     put_number(text, parts / power);
     let (mut rest, mut place) = (parts % power, power / 10);

@@ -33,7 +33,7 @@ impl Name {
         Name::RequestId,
         Name::TraceParent,
     ];
-    /// Those that tell a request from others, wherever it goes.
+    /// The fields that tell a request from others, wherever it goes.
     pub const IDS: [Name; 2] = [Name::RequestId, Name::TraceParent];
     /// How many bytes the longest of them has.
     pub(crate) const MOST_BYTES: usize = 12;

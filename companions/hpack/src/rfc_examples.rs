@@ -55,7 +55,7 @@ fn check(decoder: &mut Decoder, examples: &[Example]) {
     }
 }
 
-/// The entry with this index is this field, as far as it is kept.
+/// Compares the entry with this index with a field, as far as it is kept.
 fn check_entry(decoder: &Decoder, index: u64, (name, value): &Field) {
     let entry = match decoder.table.get(index) {
         Ok(Indexed::Dynamic(entry)) => entry,
@@ -113,7 +113,7 @@ fn requests_with_huffman_code() {
     ]);
 }
 
-/// In a table of 256 bytes.
+/// Tries responses in a table of 256 bytes.
 fn responses(blocks: [&'static str; 3]) {
     let [first, second, third] = blocks;
     let (fields, entries) = (FIRST_RESPONSE, &[LOCATION, DATE, PRIVATE, (":status", "302")]);

@@ -1,5 +1,5 @@
-//! Connections whose SYN was captured and whose SYN ACK was not. What the client acknowledges before it sends anything is
-//! the number behind the SYN ACK's, if the server's first bytes stand there: so the SYN ACK can be made up.
+//! Connections whose SYN was captured and whose SYN ACK was not. What the client acknowledges before it sends anything
+//! is the number behind the SYN ACK's, if the server's first bytes stand there: so the SYN ACK can be made up.
 
 use std::collections::HashMap;
 

@@ -20,7 +20,7 @@ use crate::waiting::{Kept, Known, Original, Source, Waiting};
 /// A connection with gaps.
 pub struct Gapped {
     pub source: Source,
-    /// Of the first flow; and which flow is the client's, if that is known.
+    /// The endpoints of the first flow; and which flow is the client's, if that is known.
     pub ends: Ends,
     pub client: Option<usize>,
     pub cuts: Vec<Cut>,
@@ -35,7 +35,7 @@ pub struct Gapped {
 /// What follows a gap.
 pub struct Part {
     pub source: Source,
-    /// Of the first flow; and which flow is the client's, if that is known.
+    /// The endpoints of the first flow; and which flow is the client's, if that is known.
     pub ends: Ends,
     pub client: Option<usize>,
     /// The packet behind the gap, and the flow that has it.
@@ -116,7 +116,7 @@ impl Behind {
         let going = Going { first: cut.first, ends, starts: cut.starts, client };
         let behind = tls.as_ref().map(|tls| tls.behind_loss(number as u64, shared));
         let followed = match behind {
-            // Of TLS nothing was read before.
+            // Nothing of its TLS was read before the gap.
             Some(None) => return,
             behind => Followed::behind(&going, behind.flatten()),
         };

@@ -1,5 +1,4 @@
-//! How far is searched for what opens connections of TLS 1.3 whose hellos were not captured, and what is said where that
-//! was not enough.
+//! How far keys of TLS 1.3 without its hellos are searched for, and what is said if that was not enough.
 
 use joined::Unjoined;
 use tls::{Reason, Search};

@@ -12,7 +12,7 @@ pub struct Common<'a, 'b> {
 }
 
 impl<'b> Common<'_, 'b> {
-    /// The same, lent.
+    /// Lends it for a shorter time.
     pub fn lent(&mut self) -> Common<'_, 'b> {
         Common { shared: self.shared, sink: self.sink }
     }

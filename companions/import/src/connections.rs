@@ -1,8 +1,8 @@
 //! A connection of the capture, by h2audit's rules (docs/AUDIT_RULES.md, 3), and what is written of it.
 //!
-//! It is undecided until the first bytes of a side are there: what begins like TLS is read as TLS, all else goes through
-//! as it stands. Of a TLS connection its openings are written, and a segment for the plaintext of each record. What a
-//! proxy put before the bytes is left out.
+//! It is undecided until the first bytes of a side are there: what begins like TLS is read as TLS, all else goes
+//! through as it stands. For a TLS connection its openings are written, and a segment for the plaintext of each record.
+//! What a proxy put before the bytes is left out.
 
 use captures::{flags, placed, swapped, Arrival, Ends, Flow, HeldSegment, Segment, MOST_HELD};
 use tls::{looks_like_tls, Known, Shared, CLIENT, SERVER};
@@ -72,7 +72,7 @@ pub struct FollowedConnection {
 }
 
 impl FollowedConnection {
-    /// Of this number, which counts from 0 on.
+    /// Begins the connection of this number, which counts from 0 on.
     pub fn new(number: usize, arrival: Arrival, segment: &Segment<'_>) -> FollowedConnection {
         FollowedConnection {
             opening: arrival.packet,
@@ -94,7 +94,7 @@ impl FollowedConnection {
         }
     }
 
-    /// Of what its client sends.
+    /// The endpoints, the client's first.
     pub fn ends(&self) -> &Ends {
         &self.numbers.ends[CLIENT]
     }

@@ -63,8 +63,8 @@ pub struct Side {
     pub acknowledges: bool,
 }
 
-/// Bytes of a side that the other one acknowledged, and that no packet of the capture has. Of a side with a packet that
-/// was not captured whole none are counted.
+/// Bytes of a side that the other one acknowledged, and that no packet of the capture has. None are counted of a side
+/// with a packet that was not captured whole.
 #[derive(Clone, Copy, Debug, Default, PartialEq, Eq)]
 pub struct Uncaptured {
     pub bytes: u64,
@@ -103,7 +103,7 @@ pub struct Held {
     /// How many bytes were sent again.
     pub bytes: u32,
     pub why: Why,
-    /// Whose bytes were held back.
+    /// The side whose bytes were held back.
     pub side: u8,
 }
 

@@ -1,5 +1,5 @@
-//! The records of a connection of TLS 1.3 that began before the capture, and their plaintext, as segments that its sides
-//! would have sent without TLS. Their numbers count plaintext alone, from 1 on.
+//! The records of a connection of TLS 1.3 that began before the capture, and their plaintext, as segments that its
+//! sides would have sent without TLS. Their numbers count plaintext alone, from 1 on.
 
 use std::io;
 
@@ -31,7 +31,7 @@ pub struct Encrypted {
 #[derive(Default)]
 struct Batch {
     bytes: Vec<u8>,
-    /// Whose it is, how long, and which packet completed it.
+    /// The side and the length of each part, and the packet that completed it.
     parts: Vec<(usize, usize, Arrival)>,
 }
 
@@ -52,14 +52,14 @@ pub struct Decrypted {
     pub initial: [Option<u32>; 2],
 }
 
-/// Whose plaintext it is, and where it is kept.
+/// The source of plaintext, and where it is kept.
 pub struct Out<'a> {
     pub source: Source,
     pub kept: &'a mut Kept,
 }
 
 impl Encrypted {
-    /// Of a pair whose first segment is this one, and has such ends.
+    /// Begins a pair whose first segment is this one, and has these endpoints.
     pub fn new(pair: usize, shared: &Shared, first: Arrival, ends: Ends) -> Encrypted {
         Encrypted {
             tls: tls::TlsConnection::from_middle(pair as u64, shared),

@@ -56,7 +56,7 @@ impl Hasher for EndsHasher {
         self.hash = product as u64 ^ (product >> 64) as u64;
     }
 
-    /// A length, which is always the same.
+    /// Passes over a length, which is always the same.
     #[inline]
     fn write_usize(&mut self, _length: usize) {}
 }

@@ -24,10 +24,10 @@ pub struct Ended {
 /// Where a connection goes on behind a gap.
 pub struct Going {
     pub first: Arrival,
-    /// Of the first flow.
+    /// The endpoints of the first flow.
     pub ends: Ends,
     pub starts: [u32; 2],
-    /// Whose flow is the client's, if that is known.
+    /// The flow of the client, if that is known.
     pub client: Option<usize>,
 }
 

@@ -27,17 +27,17 @@ struct Open {
 #[derive(Default)]
 pub struct Gaps {
     connections: Vec<Open>,
-    /// Whose each hole is, where it is not filled.
+    /// The connection of each hole, as long as it is not filled.
     holes: Vec<Option<u32>>,
     pieces: usize,
 }
 
 /// A connection with a hole that was not filled.
 pub struct Gap {
-    /// By which its packets wait.
+    /// The number of the hole, by which its packets wait.
     pub hole: usize,
     pub connection: usize,
-    /// Of what its client sends.
+    /// The endpoints, the client's first.
     pub ends: Ends,
     pub cuts: Vec<Cut>,
     /// Its last packet.

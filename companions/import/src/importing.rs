@@ -72,7 +72,7 @@ pub fn imported(
     Ok(summary)
 }
 
-/// The keys that are known before the capture is read, and whether more may come in it.
+/// Reads the keys that are known before the capture is read, and whether more may come in it.
 fn read_keys(asked: &ImportOptions<'_>, files: &[OsString], shared: &mut Shared) -> Result<(), Failure> {
     for path in asked.key_logs {
         let read = File::open(path).and_then(|file| shared.keys.read(file));

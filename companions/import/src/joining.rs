@@ -1,8 +1,8 @@
 //! Connections that began before the capture (docs/MAP.md, 4): what is kept of pairs of endpoints that were not seen to
 //! open one, until all is read; and what is made up for those that are joined.
 //!
-//! Their packets wait, and so do those of connections with a hole. At the end, behind all that is written otherwise, come
-//! the beginnings that are made up, and behind these the packets, as new connections of the capture that is made.
+//! Their packets wait, and so do those of connections with a hole. At the end, behind all that is written otherwise,
+//! come the beginnings that are made up, and behind these the packets, as new connections of the capture that is made.
 
 use std::io;
 
@@ -45,7 +45,7 @@ struct Known {
 /// What became of a pair: it may go on behind gaps.
 pub struct Finished {
     pub became: Result<JoinedFlows, NotJoined>,
-    /// Of the first segment.
+    /// The endpoints of the first segment.
     pub ends: Ends,
     pub cuts: Vec<Cut>,
     pub last: u64,
@@ -59,13 +59,12 @@ pub struct Joining {
     budget: Budget,
     pub gaps: Gaps,
     kept: Kept,
-    /// The files that can be read twice, whether the one that is read is the last of them, and where the packet that comes
-    /// stands there.
+    /// The files that can be read twice, whether the one that is read is their last, and the place of the next packet.
     originals: Vec<Original>,
     is_original: bool,
     place: Option<Place>,
     answers: Answers,
-    /// Of connections that opened, and whose answer was made up.
+    /// Connections that opened, and whose SYN ACK was made up.
     pub joined: Vec<JoinedConnection>,
 }
 

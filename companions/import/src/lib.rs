@@ -22,9 +22,9 @@
 //! bounded by connections and by the stretches of time in which TCP held back what a side sends.
 //!
 //! With [`ImportOptions::is_joined`], connections that began before the capture are joined (the crate `joined`): behind
-//! all else come records that are made up ([`Record::is_made`]), and the packets of these connections, as new ones behind
-//! all others. [`Summary::joined`] has how, and what is assumed; [`Fate`] what became of each pair that opened none. TLS
-//! 1.3 is opened without its hellos, within [`Bounds`]:
+//! all else come records that are made up ([`Record::is_made`]), and the packets of these connections, as new ones
+//! behind all others. [`Summary::joined`] has how, and what is assumed; [`Fate`] what became of each pair that opened
+//! none. TLS 1.3 is opened without its hellos, within [`Bounds`]:
 //!
 //! ```text
 //! table ─ joining ─ followed ─┬─ joined             a pair's frames, and what is made up for them

@@ -16,10 +16,10 @@ pub trait Listener {
     /// A file begins, behind so many packets of others.
     fn begin_file(&mut self, path: &OsStr, packets_before: u64);
 
-    /// An address of IPv6, and the one of IPv4 that stands for it.
+    /// Takes an address of IPv6, and the one of IPv4 that stands for it.
     fn address(&mut self, stand_in: [u8; 4], original: [u8; 16]);
 
-    /// A record of the capture that is made.
+    /// Takes a record of the capture that is made.
     fn record(&mut self, record: &Record<'_>);
 
     /// A packet that is passed over, though it may have bytes of a connection, by the reason that a map names; `cut` is
@@ -39,15 +39,15 @@ pub trait Listener {
 /// A record of the capture that is made. Records need not be in the order of their packets.
 #[derive(Clone, Copy, Debug)]
 pub struct Record<'a> {
-    /// As h2audit counts, from 1 on.
+    /// Its number, as h2audit counts, from 1 on.
     pub number: u64,
     /// The arrival of the packet that completed it.
     pub arrival: Arrival,
-    /// Whose it is by h2audit's rules: the last opening of its pair among the records up to it.
+    /// Its connection and side by h2audit's rules: the last opening of its pair among the records up to it.
     pub sender: Option<Sender>,
     /// Whether it opens that connection. h2audit numbers connections in the order of these records.
     pub is_opening: bool,
-    /// Whether it was made up, for a connection that began before the capture; its packet is then that connection's first.
+    /// Whether it was made up, for a connection that began before the capture. Its packet is that connection's first.
     pub is_made: bool,
     pub segment: Written<'a>,
 }

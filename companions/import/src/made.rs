@@ -1,8 +1,8 @@
 //! The capture that h2audit audits: what an import makes, or the original in its place.
 //!
-//! Of one plain pcap file whose segments go through as they stand, h2audit says of the original what it says of what is
-//! made, with packets in the place of records: then nothing is written. From the first record on that is another one,
-//! all is, behind a copy of what was spared.
+//! If the original is one plain pcap file whose segments go through as they stand, h2audit says of it what it says of
+//! what is made, with packets in the place of records: then nothing is written. From the first record on that differs,
+//! all is written, behind a copy of what was spared.
 
 use std::ffi::OsString;
 use std::fs::{self, File};
@@ -60,7 +60,7 @@ fn state_of(file: &File) -> io::Result<State> {
 }
 
 impl MadeCapture {
-    /// Of these files, if the original may stand for it.
+    /// Makes a capture of these files, in whose place the original stands if it may.
     pub fn new(files: &[OsString], may_stand: bool) -> Result<MadeCapture, Failure> {
         let original = match files {
             // What cannot be opened is named where it is read.
@@ -90,8 +90,8 @@ impl MadeCapture {
         }
     }
 
-    /// Whether the file was changed, so that what was read of it need not be what is audited. That is known once h2audit
-    /// has said something, which it does when it has read all.
+    /// Whether the file was changed, so that what was read of it need not be what is audited. That is known once
+    /// h2audit has said something, which it does when it has read all.
     pub fn has_changed(&self) -> bool {
         let is_changed = self.original.as_ref().map_or(false, Original::has_changed);
         self.is_doubtful || self.standing.is_some() && is_changed

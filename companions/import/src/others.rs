@@ -1,4 +1,4 @@
-//! What packets carry that have no TCP segment: by EtherType, or by IP protocol, so that a tunnel is named as what it is.
+//! What packets without a TCP segment carry: by EtherType or IP protocol, so that a tunnel is named as what it is.
 
 use std::collections::HashMap;
 

@@ -145,7 +145,7 @@ pub struct Unopened {
 #[derive(Clone, Copy, Debug, PartialEq, Eq)]
 pub enum Fate {
     NotAsked,
-    /// As the connection of this number.
+    /// It is joined as the connection of this number.
     Joined(usize),
     Unjoined(NotJoined),
 }
@@ -169,7 +169,7 @@ impl fmt::Display for NotJoined {
 /// A connection that was joined, and so has records that were made up.
 #[derive(Clone, Debug)]
 pub struct JoinedConnection {
-    /// As [`Summary::outcomes`] counts.
+    /// Its number, as [`Summary::outcomes`] counts.
     pub connection: usize,
     pub how: How,
     /// How many records were made up, and how many bytes of each side.
@@ -195,7 +195,7 @@ pub enum Behind {
 #[derive(Clone, Copy, Debug)]
 pub struct GapSaid {
     pub connection: usize,
-    /// Whose bytes are missing, and the first packet behind them.
+    /// The side whose bytes are missing, and the first packet behind them.
     pub side: usize,
     pub first: Arrival,
     pub fate: Fate,
@@ -257,8 +257,8 @@ fn packets(count: u64) -> String {
     format!("{count} packet{}", if count == 1 { "" } else { "s" })
 }
 
-/// What is said of packets whose times lie before that of the packet before them: the first of these, and the longest way
-/// back; and how many packets were left where they are, where packets were to be put in order.
+/// What is said of packets whose times lie before that of the packet before them: the first of these, and the longest
+/// way back; and how many packets were left where they are, where packets were to be put in order.
 pub fn times_go_back(packet: u64, nanos: u64, left: Option<u64>) -> String {
     match left {
         Some(left) => {

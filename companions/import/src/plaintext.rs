@@ -28,8 +28,8 @@ pub struct Later {
     pub sides: [usize; 2],
 }
 
-/// What became of a connection of TLS, at its end, of which so many bytes are written; and of each side the first packet
-/// behind bytes that were lost.
+/// What became of a connection of TLS, at its end, of which so many bytes are written; and of each side the first
+/// packet behind bytes that were lost.
 pub fn became(tls: &tls::TlsConnection, sent: [u32; 2]) -> (Became, [Option<Arrival>; 2]) {
     if let Some(why) = tls.refused() {
         return (Became::Refused(why), [None; 2]);
@@ -110,7 +110,7 @@ impl Numbers {
         sink.emit(arrival, Some(self.sender(sink, side)), segment);
     }
 
-    /// Whose the segments of a side are that are written now.
+    /// The sender to which segments of a side belong that are written now.
     fn sender(&self, sink: &Sink<'_>, side: usize) -> Sender {
         match self.later.filter(|later| sink.has_opening(later.connection)) {
             Some(Later { connection, sides }) => Sender { connection, side: sides[side] },

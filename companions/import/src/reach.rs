@@ -101,7 +101,7 @@ impl Reach {
         }
     }
 
-    /// Likewise if it brings what comes next, and nothing is missing. Answers whether that is so.
+    /// Takes a segment if it brings what comes next, and nothing is missing. Answers whether none of it is left.
     #[inline]
     pub fn goes_on(&mut self, side: usize, segment: &Segment<'_>) -> bool {
         let (length, one) = (segment.end - segment.start, &self.sides[side]);
@@ -147,7 +147,7 @@ impl Reach {
         self.is_snapped
     }
 
-    /// Where it goes on behind each hole, in the order of packets. Of bytes that came after later ones nothing goes on.
+    /// Where it goes on behind each hole, in the order of packets; never with bytes that came after later ones.
     pub fn cuts(&self) -> Vec<Cut> {
         let mut cuts = Vec::new();
         for (side, one) in self.sides.iter().enumerate() {

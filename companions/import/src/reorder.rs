@@ -1,8 +1,8 @@
 //! Puts packets in order of time, as far as a bound allows (docs/MAP.md, 3).
 //!
-//! A packet is late if one before it is newer. It goes before all newer ones if it is at most a second late, and no more
-//! than so many packets and bytes of newer ones came before it. Else it is left where it is, as if it had the time of the
-//! newest packet before it. Equal times keep their order.
+//! A packet is late if one before it is newer. It goes before all newer ones if it is at most a second late, and no
+//! more than so many packets and bytes of newer ones came before it. Else it is left where it is, as if it had the time
+//! of the newest packet before it. Equal times keep their order.
 //!
 //! Where a second of nothing but too late packets comes, a clock was set back: times count anew from there.
 
@@ -118,7 +118,7 @@ impl Reorder {
         self.done
     }
 
-    /// Takes the next packet of the capture. What stands for a block without a packet has no time, and stays where it is.
+    /// Takes the next packet of the capture. What stands for a block without a packet has no time, and is not moved.
     pub fn add(&mut self, number: u64, packet: &Packet<'_>) {
         let nanos = match packet.link {
             Some(_) => self.time_of(packet.nanos),

@@ -60,7 +60,7 @@ impl Room {
         self.window.filter(|(_, edge)| is_behind(*edge, end)).map_or(0, |(_, edge)| edge.wrapping_sub(end))
     }
 
-    /// A segment of the other side, whose window is so large.
+    /// Takes a segment of the other side, whose window is so large.
     pub fn answered(&mut self, arrival: Arrival, segment: &Brief, window: u32) {
         if !segment.has(flags::ACK) || segment.has(flags::RST) {
             return;

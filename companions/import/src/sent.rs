@@ -38,8 +38,8 @@ pub struct Sent {
     /// The last packets, each with its time and its print, in a ring; and where in it the last one stands.
     recent: Vec<(i64, u64)>,
     latest: usize,
-    /// The offset up to which the other side acknowledged, and with which packet; and the first one since when that lies
-    /// behind all bytes that came.
+    /// The offset up to which the other side acknowledged, and with which packet; and the first one since when that
+    /// lies behind all bytes that came.
     acknowledged: u32,
     raised: Option<Arrival>,
     beyond: Option<Arrival>,
@@ -49,8 +49,8 @@ pub struct Sent {
     is_snapped: bool,
 }
 
-/// What tells one packet from another: its number, its identification, and its payload, in 64 bits. Eight bytes are taken
-/// at a time, in four sums side by side; what differs in one sum alone differs in the result.
+/// What tells one packet from another: its number, its identification, and its payload, in 64 bits. Eight bytes are
+/// taken at a time, in four sums side by side; what differs in one sum alone differs in the result.
 fn print_of(sequence: u32, identification: u16, octets: &[u8]) -> u64 {
     let add = |sum: u64, number: u64| (sum ^ number).wrapping_mul(FACTOR).rotate_left(TURN);
     let number = |eight: &[u8]| eight.try_into().map_or(0, u64::from_le_bytes);
@@ -71,7 +71,7 @@ fn print_of(sequence: u32, identification: u16, octets: &[u8]) -> u64 {
 }
 
 impl Sent {
-    /// The number before its first byte, where bytes before that are none of what is told.
+    /// Begins behind this number, since bytes before that are none of what is told.
     pub fn begin(&mut self, initial: u32) {
         self.initial = Some(initial);
         self.is_within = true;
@@ -94,14 +94,14 @@ impl Sent {
         }
     }
 
-    /// The offset behind the bytes that are acknowledged. A FIN has a number of its own, also where it was not captured.
+    /// The offset behind the bytes that are acknowledged. A FIN has a number of its own, even if it was not captured.
     fn acknowledged_bytes(&self) -> u32 {
         let is_fin = self.has_fin || self.acknowledged == self.reached.saturating_add(1);
         self.acknowledged.saturating_sub(u32::from(is_fin))
     }
 
-    /// What the other side has, though it was not captured, where it takes segments of this size; and the first packet that
-    /// acknowledges what of it is at the end.
+    /// What the other side has, though it was not captured, where it takes segments of this size; and the first packet
+    /// that acknowledges what of it is at the end.
     pub fn uncaptured(&self, size: u32) -> Uncaptured {
         let mut found = Uncaptured::default();
         if self.is_snapped {

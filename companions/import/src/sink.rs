@@ -31,7 +31,7 @@ pub trait Target: Write {
         false
     }
 
-    /// From here on all is written, behind what was spared.
+    /// Writes all from here on, behind what was spared.
     fn depart(&mut self) -> io::Result<()> {
         Ok(())
     }
@@ -171,7 +171,7 @@ impl<'a> Sink<'a> {
         self.may_write(arrival);
     }
 
-    /// Whether a record need not be written. Of a stray, which has no payload, h2audit counts packets alone.
+    /// Whether a record need not be written. A stray has no payload, and h2audit only counts its packets.
     fn spares(&mut self, arrival: Arrival, sender: Option<Sender>, segment: &Written<'_>) -> bool {
         let is_as_it_stands = !self.is_made && (segment.is_whole || sender.is_none());
         let connection = sender.map(|sender| sender.connection);

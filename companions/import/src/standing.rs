@@ -42,8 +42,8 @@ impl Standing {
         Standing { header, runs, records: 0, last: 0, last_of, last_stray: 0, last_opening: 0 }
     }
 
-    /// Takes the packet of the next record, unless h2audit would find another order in the original: that of the packets
-    /// of a connection, of openings, and of strays.
+    /// Takes the packet of the next record, unless h2audit would find another order in the original: that of the
+    /// packets of a connection, of openings, and of strays.
     pub fn takes(&mut self, packet: u64, connection: Option<usize>) -> bool {
         if !self.is_in_order(packet, connection) {
             return false;
@@ -105,8 +105,8 @@ impl Standing {
     }
 }
 
-/// The records of an import by those of a report: packets, how many follow each other, and the record of the first; none
-/// where the report has the import's.
+/// The records of an import by those of a report: packets, how many follow each other, and the record of the first;
+/// none where the report has the import's.
 pub struct RecordsOf(Option<Vec<(u64, u64, u64)>>);
 
 impl RecordsOf {
@@ -133,7 +133,7 @@ struct Packets {
     /// Where the next one stands, and how many stand before that.
     place: u64,
     read: u64,
-    /// Those that were passed over, until they are asked for, with their times.
+    /// Packets that were passed over, until they are asked for, with their times.
     passed: HashMap<u64, (i64, HeldSegment)>,
 }
 

@@ -1,7 +1,7 @@
 //! Which connection a segment belongs to: the last opening of its pair at or before it (docs/AUDIT_RULES.md, 3).
 //!
-//! A connection is kept until its outcome is known. After that its pair has the sequence number of its opening, by which
-//! a repeated SYN is told from a new one, and whether segments still pass.
+//! A connection is kept until its outcome is known. After that its pair has the sequence number of its opening, by
+//! which a repeated SYN is told from a new one, and whether segments still pass.
 
 use std::collections::{HashMap, VecDeque};
 
@@ -91,8 +91,7 @@ pub struct Taken {
     pub opens: bool,
 }
 
-/// A segment of a pair that no opening was seen of so far: which one of these, and whether its first sender sends (0) or
-/// the other one.
+/// A segment of a pair without an opening so far: which one of these, and whether its first sender sends (0) or not.
 #[derive(Clone, Copy)]
 pub struct Stray {
     pub pair: usize,
@@ -105,7 +104,7 @@ type Places = HashMap<Ends, Place, EndsHashing>;
 #[derive(Default)]
 pub struct Table {
     places: Places,
-    /// Of the last segment's pair, until places change.
+    /// The last segment's pair and its place, until places change.
     latest: Option<(Ends, Place)>,
     /// In the order of their first segments.
     unopened: Vec<Pair>,
@@ -117,7 +116,7 @@ pub struct Table {
     count: usize,
     /// The last packet of each of them.
     last: Vec<Arrival>,
-    /// With the time of an RST, until that is long ago.
+    /// Connections that were reset, each with the time of its RST, until that is long ago.
     reset: VecDeque<(i64, usize, usize)>,
     /// Which connections wait for the keys of a client random.
     waiting: HashMap<Random, Vec<(usize, usize)>>,
@@ -356,7 +355,7 @@ impl Table {
         }
     }
 
-    /// Those of open connections, in the order of openings.
+    /// The slots of open connections, in the order of openings.
     fn open_slots(&self) -> Vec<usize> {
         let mut open: Vec<_> = (0..self.slots.len()).filter(|slot| self.slots[*slot].is_some()).collect();
         open.sort_by_key(|slot| self.slots[*slot].as_ref().map(|connection| connection.number()));

@@ -18,7 +18,7 @@ const SOURCE: usize = 4;
 const STANDS: usize = 20;
 /// What it is known by where it stands; what is kept itself has more behind its front.
 const PRINT: usize = 4;
-/// Of what is kept itself: packet, time, how many bytes it had, and how many it has.
+/// Where all of a packet is kept: its number, its time, how many bytes it had, and how many it has.
 const KEPT: usize = 24;
 /// So much is written at a time.
 const BUFFER: usize = 1 << 17;
@@ -91,7 +91,7 @@ pub struct Known {
     pub place: Option<Place>,
 }
 
-/// By which a segment is known once more, as good as surely: its numbers, and where its payload ends.
+/// A print by which a segment is known once more, as good as surely: its numbers, its time, and where its payload ends.
 #[inline]
 fn print_of(nanos: i64, [sequence, acknowledgement]: [u32; 2], end: usize) -> u32 {
     sequence ^ acknowledgement.rotate_left(16) ^ nanos as u32 ^ (end as u32) << 16
@@ -204,7 +204,7 @@ fn stands_bytes(packet: u64, place: Place) -> [u8; STANDS] {
 /// What waited, in the order in which it came.
 pub struct Waiting {
     view: FileView,
-    /// Of what is read next there, and the source of what was read last.
+    /// Where what is read next begins there, and the source of what was read last.
     place: u64,
     source: u32,
     originals: Vec<Original>,
@@ -220,7 +220,7 @@ pub struct Waiting {
 pub struct Waited<'a> {
     pub known: Known,
     packet: Packet<'a>,
-    /// Of one that stands in a file: what it is known by, and the file.
+    /// If it stands in a file: what it is known by, and the file.
     standing: Option<(u32, &'a OsString)>,
 }
 
@@ -232,7 +232,7 @@ impl<'a> Waited<'a> {
         found.filter(is_same).ok_or_else(|| self.standing.map_or_else(ended, |(_, path)| changed(path)))
     }
 
-    /// The same as it is written; none of IPv6, and of what is not known once more.
+    /// Its segment as it is written; none if it is IPv6, or is not the one that waited.
     #[inline]
     pub fn written(&self) -> Option<Written<'a>> {
         let found = InIpv4::again(&self.packet)?;

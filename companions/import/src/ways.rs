@@ -168,7 +168,7 @@ impl Way {
     }
 }
 
-/// The largest segment that a side takes (RFC 9293, 3.2), and the shift of its windows (RFC 7323, 2.2), as its SYN says.
+/// What a side's SYN says: the largest segment that it takes (RFC 9293, 3.2), the shift of its windows (RFC 7323, 2.2).
 fn options_of(segment: &Segment<'_>) -> (Option<u32>, Option<u8>) {
     let headers = segment.headers().concat();
     let (mut size, mut shift) = (None, None);

@@ -188,7 +188,7 @@ fn keep_alive() {
     assert_eq!((course.sides[CLIENT].bytes, course.sides[CLIENT].resent), (0, 1));
 }
 
-/// The same two hosts connect again, now from the other end: what comes then is of the new connection.
+/// Two hosts connect again, now from the other end: what comes then is of the new connection.
 #[test]
 fn opened_again() {
     let [syn, answer, _] = opening();

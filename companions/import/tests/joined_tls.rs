@@ -19,8 +19,7 @@ fn second_half(capture: &[u8]) -> Vec<u8> {
     [&capture[..24], &capture[at..]].concat()
 }
 
-/// How many bytes of payload the packets of a capture have that are sent between such ends, and those sent otherwise; and
-/// its last packet.
+/// How many bytes of payload a capture's packets between such ends have, and all others; and its last packet.
 fn payloads_in(path: &Path, ends: &Ends) -> ([u64; 2], Arrival) {
     let mut reader = Reader::new(Source::open(path.as_os_str()).ok().unwrap()).ok().unwrap();
     let (mut sums, mut last, mut decoder) = ([0; 2], Arrival { packet: 0, nanos: 0 }, Decoder::default());

@@ -14,8 +14,8 @@ use mutations::changed;
 use programs::{Failure, Output};
 
 const MOST_SECONDS: u64 = 60;
-/// What is made of a capture is at most so many times its size, besides what its header takes: the smallest record of TLS
-/// with content has 23 bytes, in a packet of some size, and becomes a packet of 57.
+/// What is made of a capture is at most so many times its size, besides what its header takes: the smallest record of
+/// TLS with content has 23 bytes, in a packet of some size, and becomes a packet of 57.
 const MOST_GROWTH: usize = 8;
 /// What is made up for a connection that is joined, at most.
 const MOST_MADE: usize = 17 << 20;

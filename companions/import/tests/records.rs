@@ -22,7 +22,7 @@ const SEQUENCE: usize = 28 + 14 + 40 + 4;
 struct Plain {
     decoder: Decoder,
     last: HashMap<Ends, Sender>,
-    /// Of each connection the number of its SYN.
+    /// The number of its SYN, by connections.
     initial: HashMap<usize, u32>,
     records: Vec<(i64, Vec<u8>)>,
 }

@@ -1,5 +1,5 @@
-//! Where the original stands for what is made, its packets have the datagrams of the records; and where it does not, the
-//! same is made as without it, from whichever record on that is.
+//! Where the original stands for what is made, its packets have the datagrams of the records; and where it does not,
+//! the same is made as without it, from whichever record on that is.
 
 mod common;
 
@@ -85,7 +85,7 @@ fn try_one(path: &Path, keys: &Path) -> bool {
     assert_eq!(originals.len(), copies.len());
     for ((_, copy), packet) in copies.iter().zip(packets) {
         let at = originals.binary_search_by_key(&packet, |one| one.0).unwrap();
-        // Of a stray, the payload is left out, and the length says so.
+        // The payload of a stray is left out, and its length says so.
         assert!(originals[at].1[4..].starts_with(&copy[4..]));
     }
     true

@@ -60,7 +60,7 @@ pub struct Assumed {
     /// The side that sends through it: 0 is the client.
     pub side: usize,
     pub what: What,
-    /// With which it begins, and the least that breaks no rule.
+    /// The credit with which it begins, and the least that breaks no rule.
     pub credit: i64,
     pub least: i64,
     pub grade: Grade,
@@ -77,7 +77,7 @@ pub struct Assumed {
 pub struct Credits {
     pub connection: i64,
     pub initial: i64,
-    /// Of streams that were open, in rising order.
+    /// The streams that were open, in rising order.
     pub streams: Vec<(u32, i64)>,
     pub assumed: Vec<Assumed>,
 }
@@ -124,7 +124,7 @@ fn within(mut found: Assumed, [initial, unclaimed]: [i64; 2], made: &mut i64) ->
     (found.credit, Some(found))
 }
 
-/// An initial window that nothing depends on: the least credit of streams that were open, so that little has to be made.
+/// An initial window that nothing depends on: the least credit of streams that were open, so that little is made up.
 fn free_initial(concluding: &Concluding<'_>, open: &[Open]) -> i64 {
     let found =
         open.iter().filter_map(|one| concluding.open_stream(one, 0)).filter(|found| found.grade != Grade::Bound);
@@ -146,8 +146,8 @@ impl Open {
         Open { id, evidence, is_refused: window.is_refused, least: window.least() }
     }
 
-    /// Where all contents, or the bound, are 2^k - 1 bytes, the stream's window is the likely reason. If the connection's
-    /// bound is so too, as 65,535 is where it begins, either may be.
+    /// Where all contents, or the bound, are 2^k - 1 bytes, the stream's window is the likely reason. If the
+    /// connection's bound is so too, as 65,535 is where it begins, either may be.
     fn add_bits(&mut self, sender: &Sender) {
         for evidence in self.evidence.iter_mut().filter(|one| one.touches > 0) {
             evidence.alone = evidence.if_one_is_little(evidence.alone);
@@ -165,12 +165,12 @@ fn is_bound_of_window(evidence: &Evidence) -> bool {
     evidence.least().map_or(false, is_window)
 }
 
-/// Whether the bounds of both are, in the same pauses.
+/// Whether the bounds of both are those of windows, in the same pauses.
 fn are_both_windows(evidence: &Evidence, connection: &Evidence) -> bool {
     is_bound_of_window(evidence) && is_bound_of_window(connection) && evidence.of_turn == connection.turn
 }
 
-/// Likewise of new streams.
+/// Adds these bits to the window of streams that opened since, as `Open::add_bits` does for one that was open.
 fn add_bits_of_windows(sender: &mut Sender) {
     let are_windows = sender.are_windows() && sender.initial.touches > 0;
     let (initial, connection) = (&mut sender.initial, &sender.connection);
@@ -239,7 +239,8 @@ impl Concluding<'_> {
         initial.max(1 - open.least + lowered).min(MOST_CREDIT)
     }
 
-    /// Of the evidence before and after the initial window changed, that which asks for more.
+    /// What is assumed of a stream that was open, by the evidence before or after the initial window changed, whichever
+    /// asks for more credit.
     fn open_stream(&self, open: &Open, initial: i64) -> Option<Assumed> {
         let of = |at: usize, floor: i64| {
             let mut weighed = weighed(&open.evidence[at], &self.sender.connection);

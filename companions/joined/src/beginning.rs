@@ -1,5 +1,5 @@
-//! The beginning that is made up for a connection: what its sides would have sent for its windows and streams to stand as
-//! they did when the capture began.
+//! The beginning that is made up for a connection: what its sides would have sent for its windows and streams to stand
+//! as they did when the capture began.
 
 use cutter::FIRST_CREDIT;
 
@@ -8,8 +8,8 @@ use crate::frames::{placeholders, Script, HEADER_TABLE_SIZE, INITIAL_WINDOW, MAX
 
 const CLIENT: usize = 0;
 const SERVER: usize = 1;
-/// The initial window until all streams have their credits: content takes it down, and the last SETTINGS take all streams
-/// down by as much as it is too large, below zero too (RFC 9113, 6.9.2).
+/// The initial window until all streams have their credits: content takes it down, and the last SETTINGS take all
+/// streams down by as much as it is too large, below zero too (RFC 9113, 6.9.2).
 const HIGH: u32 = 1 << 30;
 const USUAL_FRAME: u32 = 1 << 14;
 

@@ -18,7 +18,7 @@ const LONGEST_FRAME: u32 = (1 << 24) - 1;
 const MOST_ALONE: i32 = 56;
 /// No chain is worth more, nor less.
 const MOST_BITS: i32 = 1 << 29;
-/// Of a chain with a length that is not tried.
+/// The bits of a chain with a length that is not tried.
 const BROKEN: i32 = -(1 << 30);
 
 /// Where frames begin, and how sure that is.
@@ -160,7 +160,7 @@ const RULES: [Rule; 10] = [
     rule(0, Some(4), EITHER),
     rule(flag::END_HEADERS, None, STREAM),
 ];
-/// Of a type that is not known, which may have all flags.
+/// The rule of an unknown type, which may have all flags.
 const UNKNOWN_KIND: Rule = Rule { kind: -4, without_others: 0, ..rule(0xff, None, (20, None)) };
 
 /// The bits that a header is worth; below 0 where it is unusual.

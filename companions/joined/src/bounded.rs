@@ -4,13 +4,13 @@ use cutter::Nanos;
 
 use crate::evidence::{Evidence, Pause};
 
-/// Of a window whose other side sent nothing so far.
+/// Stands for the last time of a side that has sent nothing so far.
 pub const NEVER: Nanos = Nanos::MIN;
 
 /// It is small, so that those of many streams are near.
 #[derive(Clone, Debug)]
 pub struct BoundedWindow {
-    /// Beside its unknown beginning, and beside the initial window.
+    /// Its credit without the unknown one at its beginning, and without the initial window.
     pub credit: i64,
     /// When the other side last sent what this one may answer.
     pub spoken: Nanos,
@@ -26,17 +26,17 @@ pub struct BoundedWindow {
 #[derive(Clone, Debug)]
 pub struct AtBound {
     pub pause: Option<Pause>,
-    /// Of how many changes of the initial window the pause knows.
+    /// How many changes of the initial window the pause takes into account.
     pub change: u32,
-    /// Of a stream that was open at the beginning: before and after the initial window changed.
+    /// What is known of a stream that was open at the beginning: before and after the initial window changed.
     pub open: Option<Box<[Evidence; 2]>>,
-    /// The bound of that, as its evidence has it since the last change, and the least that its credit was.
+    /// The bound of such a stream, as its evidence has it since the last change, and the least that its credit was.
     pub bound: i64,
     least: i64,
 }
 
 impl AtBound {
-    /// Of a stream that was open it pauses.
+    /// A pause is given for a stream that was open at the beginning.
     pub fn new(pause: Option<Pause>) -> AtBound {
         let open = pause.is_some().then(Box::default);
         AtBound { pause, change: 0, open, bound: i64::MAX, least: 0 }
@@ -44,12 +44,12 @@ impl AtBound {
 }
 
 impl BoundedWindow {
-    /// Of a stream that opens now.
+    /// The window of a stream that opens now.
     pub fn opened(is_live: bool) -> BoundedWindow {
         BoundedWindow { credit: 0, spoken: NEVER, at_bound: None, is_live, is_plain: is_live, is_refused: false }
     }
 
-    /// Of a stream that was open at the beginning, when its sender may have waited.
+    /// The window of a stream that was open at the beginning, when its sender may have waited.
     pub fn open_since(beginning: Nanos) -> BoundedWindow {
         let at_bound = AtBound::new(Some(Pause::from_the_beginning(beginning)));
         BoundedWindow { at_bound: Some(Box::new(at_bound)), is_plain: false, ..BoundedWindow::opened(true) }
@@ -76,8 +76,8 @@ impl BoundedWindow {
         }
     }
 
-    /// Content came. Answers whether the credit is above its bound, so that nothing pauses: above `opened` if the stream
-    /// opened since the beginning.
+    /// Content came. Answers whether the credit is above its bound, so that nothing pauses: above `opened` if the
+    /// stream opened since the beginning.
     #[inline]
     pub fn lower(&mut self, length: u32, in_force: i64, (changes, opened): (u32, i64)) -> bool {
         self.credit -= i64::from(length);

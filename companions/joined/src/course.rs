@@ -17,7 +17,7 @@ const FRONT: usize = 256;
 const MOST_WAITING: usize = 4096;
 const INITIAL_WINDOW: u16 = 4;
 const ENABLE_PUSH: u16 = 2;
-/// Of errors (RFC 9113, 7).
+/// The code of an error (RFC 9113, 7).
 const FLOW_CONTROL_ERROR: u32 = 3;
 const USUAL_FRAME: u32 = 1 << 14;
 
@@ -143,7 +143,7 @@ impl JoinedCourse {
         said
     }
 
-    /// Whether HEADERS open a stream: as a request, or above all streams where only the dynamic table knows their fields.
+    /// Whether HEADERS open a stream: as a request, or above all streams if only the dynamic table has their fields.
     fn opens(&self, flow: usize, stream: u32, said: Option<Speaker>) -> bool {
         let is_client = self.sides.is_client(flow) == Some(true);
         let is_request = said == Some(Speaker::Client);

@@ -5,7 +5,7 @@ use crate::incoming::Piece;
 /// One stands so close to its double.
 const MOST_BETWEEN: usize = 8;
 
-/// Of the last packets of a flow that have payload, what tells them from others; and how many there were, and stood
+/// What tells the last packets of a flow with payload from others; how many such packets there were, and how many stood
 /// twice.
 #[derive(Clone, Copy, Debug, Default)]
 pub struct Doubles {

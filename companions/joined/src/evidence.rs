@@ -1,7 +1,7 @@
 //! What a window's credit must have been, and what tells that it was no more.
 //!
-//! Content tells how much there was at least. That there was no more is told by *touches*: the sender came to the bound,
-//! paused, got a grant, and went on. Touches are worth bits; what raises the bound makes those before worth nothing.
+//! Content tells how much there was at least. *Touches* tell that there was no more: the sender came to the bound,
+//! paused, got a grant, and went on. Touches are worth bits, and those before the bound rises are worth none.
 
 use cutter::Nanos;
 
@@ -44,7 +44,7 @@ impl Pause {
         Pause { since, length: Some(length), is_end, granted: None }
     }
 
-    /// The first grant counts.
+    /// Notes a grant, of which the first counts.
     pub fn grant(&mut self, time: Nanos) {
         self.granted.get_or_insert(time);
     }
@@ -55,8 +55,8 @@ impl Pause {
         Some((self.since, self.granted?))
     }
 
-    /// Whether content that comes then ends a pause that a grant ended; `spoken` is when the other side last sent something
-    /// else that the content may answer.
+    /// Whether content that comes then ends a pause that a grant ended; `spoken` is when the other side last sent
+    /// something else that the content may answer.
     pub fn touch(&self, content: Nanos, spoken: Nanos) -> Option<Touch> {
         let granted = self.granted?;
         if spoken >= self.since {
@@ -73,7 +73,7 @@ pub struct Touch {
     pub pause: Nanos,
     /// From the grant to the next content.
     delay: Nanos,
-    /// Of the content before it, which may end its stream.
+    /// How long the content before it was, which may end its stream.
     pub length: Option<u32>,
     is_end: bool,
 }
@@ -120,7 +120,7 @@ pub struct Evidence {
     /// Bits that no other window explains, and those of pauses in which another one was at its bound too.
     pub alone: f64,
     pub shared: f64,
-    /// Of the shared bits of the connection's window, those that are shared with this one.
+    /// The shared bits of the connection's window that are shared with this one.
     pub lent: f64,
     /// How many bounds it had, and which one of the connection's window the shared bits are about.
     pub turn: u32,
@@ -206,7 +206,7 @@ impl Evidence {
 pub enum Bound {
     /// Not to its bound.
     None,
-    /// Again to the one that was known.
+    /// To the bound that was known.
     Old,
     /// Below that.
     New,

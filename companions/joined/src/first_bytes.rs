@@ -5,8 +5,8 @@ use cutter::{kind, Head, HEADER, PREFACE};
 /// So many bytes of each flow tell.
 pub const FRONT: usize = PREFACE.len() + HEADER;
 
-/// Whether these are the first bytes of a client and of its server: the preface and SETTINGS of HTTP/2 (RFC 9113, 3.4), or
-/// the hellos of TLS (RFC 8446, 4.1).
+/// Whether these are the first bytes of a client and of its server: the preface and SETTINGS of HTTP/2 (RFC 9113, 3.4),
+/// or the hellos of TLS (RFC 8446, 4.1).
 pub fn are_first(client: &[u8], server: &[u8]) -> bool {
     let is_http2 = client.starts_with(PREFACE) && begins_with_settings(server);
     is_http2 || is_hello(client, 1) && is_hello(server, 2)

@@ -72,7 +72,7 @@ impl Script {
         self.frame(side, (kind::PUSH_PROMISE, flag::END_HEADERS), stream, &promised.to_be_bytes());
     }
 
-    /// A grant of any size, in as many frames as it takes.
+    /// Writes a grant of any size, in as many frames as it takes.
     pub fn grant(&mut self, side: usize, stream: u32, amount: i64) {
         let mut rest = amount;
         while rest > 0 {
@@ -82,7 +82,7 @@ impl Script {
         }
     }
 
-    /// Content of so many zeros.
+    /// Writes content of so many zeros.
     pub fn content(&mut self, side: usize, stream: u32, amount: i64) {
         let mut rest = usize::try_from(amount).unwrap_or(0);
         while rest > 0 {

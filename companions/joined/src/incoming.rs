@@ -25,7 +25,7 @@ pub struct Piece<'a> {
     pub acknowledgement: Option<u32>,
     /// Those of [`captures::flags`].
     pub flags: u8,
-    /// Of its datagram; 0 where it has none.
+    /// The identification of its IP datagram; 0 where it has none.
     pub identification: u16,
     pub payload: &'a [u8],
 }
@@ -106,8 +106,8 @@ pub enum Given<'a, 'b> {
 pub trait Taker {
     fn given(&mut self, flow: usize, given: Given<'_, '_>);
 
-    /// Of bytes of a flow that begin with a frame and came at that time, may take whole frames by itself. Answers how many
-    /// bytes these have.
+    /// May take whole frames by itself from bytes of a flow that begin with a frame and came at that time. Answers how
+    /// many bytes these frames have.
     fn frames(&mut self, _flow: usize, _bytes: &[u8], _time: Nanos) -> usize {
         0
     }
@@ -225,7 +225,7 @@ impl Both {
         self.flows.iter().any(|one| one.is_tls)
     }
 
-    /// The end: what is there is all.
+    /// Ends the flow: what is there is all.
     pub fn finish(&mut self, taker: &mut impl Taker) {
         self.go_on(true, taker);
     }

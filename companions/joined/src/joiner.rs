@@ -15,7 +15,7 @@ use crate::unjoined::Unjoined;
 
 pub const CLIENT: usize = 0;
 pub const SERVER: usize = 1;
-/// Of so many packets one may stand twice.
+/// One packet in so many may stand twice.
 const FEW: u64 = 10;
 
 /// How a connection was joined.
@@ -23,8 +23,8 @@ const FEW: u64 = 10;
 pub enum How {
     /// The SYN was lost, and its answer is there: nothing is inferred.
     Syn,
-    /// The answer to the SYN was lost, and the SYN, what acknowledges the answer, and the server's first bytes are there:
-    /// nothing is inferred.
+    /// The answer to the SYN was lost, and the SYN, what acknowledges the answer, and the server's first bytes are
+    /// there: nothing is inferred.
     Answer,
     /// The handshake was lost, and what both sides sent first is there: nothing is inferred.
     Handshake,
@@ -44,10 +44,10 @@ pub struct Inferred {
     /// SETTINGS from before that each side acknowledges; and the longest frame of each.
     pub acknowledged: [u32; 2],
     pub longest: [u32; 2],
-    /// When each side first acknowledged an initial window that was seen: from then on it is known of streams that opened.
+    /// When each side first acknowledged an initial window that was seen, so that streams that open later have it.
     pub changed: [Option<Nanos>; 2],
-    /// Where the last byte came of the frame of each side that the cut divides: what goes on since before the capture may
-    /// have begun with that.
+    /// Where the last byte came of the frame of each side that the cut divides: what goes on since before the capture
+    /// may have begun with that.
     pub divided: [Option<Arrival>; 2],
     /// The streams that were open, in rising order.
     pub open: Vec<u32>,
@@ -55,7 +55,7 @@ pub struct Inferred {
     pub is_doubtful: bool,
 }
 
-/// Where a side's first frame begins, behind so many of the bytes that were captured of it, by so many bits of evidence.
+/// Where a side's first frame begins, behind so many of its bytes in the capture, by so many bits of evidence.
 #[derive(Clone, Copy, Debug, PartialEq, Eq)]
 pub struct Border {
     pub at: u32,
@@ -67,7 +67,7 @@ pub struct Border {
 pub struct Joined {
     /// The first packet of it.
     pub first: Arrival,
-    /// Of what the client sends.
+    /// The endpoints, the client's first.
     pub ends: Ends,
     pub how: How,
     numbers: Numbers,
@@ -84,8 +84,8 @@ impl Joined {
         }
     }
 
-    /// The same with another number of the SYN, where something is inferred: a SYN with the number of the one before it
-    /// would open no connection.
+    /// The records with another number of the SYN, where something is inferred: a SYN that repeats the number of the
+    /// one before it would open no connection.
     pub fn other_records(&mut self) -> Vec<Made> {
         if let (Some(stand), How::Inferred(inferred)) = (&mut self.stand, &mut self.how) {
             stand.pings += 1;
@@ -121,7 +121,7 @@ pub struct Joiner {
 }
 
 impl Joiner {
-    /// Of a connection whose first segment is this one.
+    /// Joins a connection whose first segment is this one.
     pub fn new(first: Arrival, ends: Ends) -> Joiner {
         Joiner {
             first,
@@ -142,7 +142,7 @@ impl Joiner {
         }
     }
 
-    /// Of what follows a gap of either flow, from these numbers of both on. The client's flow may be known from before.
+    /// Joins what follows a gap of either flow, from these numbers of both on. The client's flow may be known already.
     pub fn behind(first: Arrival, ends: Ends, starts: [u32; 2], client: Option<usize>) -> Joiner {
         let mut joiner = Joiner { is_behind: true, client, ..Joiner::new(first, ends) };
         for (flow, start) in starts.into_iter().enumerate() {
@@ -176,8 +176,8 @@ impl Joiner {
         }
     }
 
-    /// Likewise while frames in the clear are read as they come, if nothing comes before or behind its place. Answers
-    /// whether that is so: then no more waits than before, and it is not over.
+    /// Takes a segment of frames in the clear, which are read as they come, if it is the next one and none waits.
+    /// Answers whether it took it: then no more waits than before, and it is not over.
     pub fn goes_on(&mut self, flow: usize, piece: &Piece<'_>) -> bool {
         let has_front = self.is_behind || piece.payload.is_empty() || self.fronts[flow].len() == FRONT;
         let is_read = has_front && !self.is_encrypted && !self.is_exact;

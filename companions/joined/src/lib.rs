@@ -1,6 +1,6 @@
-//! Joins connections that a capture met in their middle: finds where their frames begin, which side is the client, which
-//! streams were open, and what credit each window must have had; and makes up a beginning with which plain h2audit audits
-//! the unaltered packets.
+//! Joins connections that a capture met in their middle: finds where their frames begin, which side is the client,
+//! which streams were open, and what credit each window must have had; and makes up a beginning with which plain
+//! h2audit audits the unaltered packets.
 //!
 //! [`Joiner`] takes the segments of a pair of endpoints that was not seen to open a connection, as [`Piece`]s; what
 //! stands behind a gap comes in the same way, and so does the plaintext of TLS, beside its segments
@@ -16,8 +16,8 @@
 //!
 //! [`claimed`] and [`sure_of`] tell which findings of what is made are claimed of the connection.
 //!
-//! Each byte is looked at a bounded number of times. What is kept of a connection does not grow with its frames, but with
-//! the streams that are open; at most 1 MiB of a flow waits for its border.
+//! Each byte is looked at a bounded number of times. What is kept of a connection does not grow with its frames, but
+//! with the streams that are open; at most 1 MiB of a flow waits for its border.
 
 #![forbid(unsafe_code)]
 

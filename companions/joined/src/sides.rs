@@ -5,7 +5,7 @@ use hpack::Speaker;
 /// How that is known.
 #[derive(Clone, Copy, Debug, PartialEq, Eq)]
 pub enum SideEvidence {
-    /// As before the gap behind which a connection goes on.
+    /// By what was known before the gap behind which a connection goes on.
     Before,
     /// By the label of the secret that opens the client's records of TLS (RFC 8446, 7.1).
     Secret,
@@ -89,7 +89,7 @@ impl Sides {
         self.content[flow] += length;
     }
 
-    /// The first thing that is told counts, unless a better one comes.
+    /// Notes what is told. The first counts, unless a better one comes.
     fn tell(&mut self, client: usize, told: SideEvidence) {
         if self.client.map_or(true, |(_, before)| told.rank() < before.rank()) {
             self.client = Some((client, told));

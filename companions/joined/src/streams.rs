@@ -10,7 +10,7 @@ use crate::windows::BoundedWindow;
 
 /// So many streams may have been open. No peer allows as many.
 pub const MOST_OPEN: usize = 1 << 14;
-/// Of so many streams it is known without a search where they stand.
+/// The places of so many streams are known without a search.
 const MOST_RECENT: usize = 1 << 10;
 
 /// No stream has this number.
@@ -40,8 +40,8 @@ pub struct Streams {
     places: HashMap<u32, u32, Numbers>,
     known: Vec<Stream>,
     free: Vec<u32>,
-    /// Streams that were asked for, and their places, by the low bits of their numbers: frames of few streams follow each
-    /// other. So many stand here as a power of 2 says, twice as many as there are streams, up to a bound.
+    /// Streams that were asked for, and their places, by the low bits of their numbers: frames of few streams follow
+    /// each other. So many stand here as a power of 2 says, twice as many as there are streams, up to a bound.
     recent: Vec<(u32, u32)>,
     /// The highest that was open, by parity.
     highest: [u32; 2],
@@ -81,7 +81,7 @@ impl Streams {
         self.opened[1].first
     }
 
-    /// Those that were open, in rising order.
+    /// The streams that were open, in rising order.
     pub fn open(&self) -> impl Iterator<Item = (u32, &Stream)> {
         let known = self.places.iter().map(|(id, place)| (*id, &self.known[*place as usize]));
         let mut open: Vec<_> = known.filter(|(_, stream)| stream.was_open).collect();
@@ -89,7 +89,7 @@ impl Streams {
         open.into_iter()
     }
 
-    /// Whether HEADERS of the client, or a promise, may open a stream: it is above all that opened and all that were open.
+    /// Whether HEADERS of the client, or a promise, may open a stream: it is above all that opened or were open.
     pub fn may_open(&self, id: u32) -> bool {
         let parity = (id % 2) as usize;
         match self.opened[parity].first {

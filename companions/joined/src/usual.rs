@@ -52,7 +52,7 @@ impl Usual {
         self.gaps[log2_of(0)] += contents - 1;
     }
 
-    /// Content has this length.
+    /// Notes the length of content.
     #[inline]
     pub fn length(&mut self, length: u32) {
         if self.are_windows {
@@ -68,7 +68,7 @@ impl Usual {
         self.longest
     }
 
-    /// The longest content so far came.
+    /// Notes content that is the longest so far.
     #[inline(never)]
     fn lengthen(&mut self, length: u32) {
         let before = std::mem::replace(&mut self.longest, length);

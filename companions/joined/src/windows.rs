@@ -1,5 +1,5 @@
-//! The windows of one sender (RFC 9113, 6.9): credits beside the unknown ones with which they began, and the evidence on
-//! these. What is kept of a window does not grow with what is sent through it.
+//! The windows of one sender (RFC 9113, 6.9): credits beside the unknown ones with which they began, and the evidence
+//! on these. What is kept of a window does not grow with what is sent through it.
 
 use cutter::Nanos;
 
@@ -28,10 +28,10 @@ pub struct Sender {
     opened: i64,
     held: Option<Held>,
     pub connection: Evidence,
-    /// Of the initial window that was in force at the beginning, by the streams that opened since.
+    /// Evidence of the initial window that was in force at the beginning, by the streams that opened since.
     pub initial: Evidence,
-    /// The initial window that is in force since settings that were seen, the least that ever was, when it first changed,
-    /// and how often.
+    /// The initial window that is in force since settings that were seen, the least that ever was, when it first
+    /// changed, and how often.
     in_force: Option<i64>,
     pub least_in_force: Option<i64>,
     pub changed: Option<Nanos>,
@@ -85,8 +85,8 @@ impl Run<'_> {
     }
 }
 
-/// A pause that content ended: of the stream's window where it is at its bound, and of the connection's; and whether the
-/// connection's was at its bound too in the pause of the stream, whatever content ended that.
+/// A pause that content ended: of the stream's window where it is at its bound, and of the connection's; and whether
+/// the connection's was at its bound too in the pause of the stream, whatever content ended that.
 #[derive(Clone, Copy)]
 struct Touched {
     connection: Option<Touch>,
@@ -95,7 +95,7 @@ struct Touched {
 }
 
 impl Sender {
-    /// Of a connection on which nothing more of it is known than what comes behind this time.
+    /// Begins a sender of which nothing is known but what comes behind this time.
     pub fn new(beginning: Nanos) -> Sender {
         Sender {
             usual: Usual::default(),
@@ -295,7 +295,7 @@ fn pause_at(bound: Bound, content: Content) -> Option<Pause> {
     }
 }
 
-/// One window alone was at its bound.
+/// Tells of a touch of a window that alone was at its bound.
 fn tell(evidence: &mut Evidence, touch: &Touch, usual: &Usual) {
     if touch.length.is_none() {
         evidence.silent = touch.bits(usual);
@@ -304,7 +304,8 @@ fn tell(evidence: &mut Evidence, touch: &Touch, usual: &Usual) {
     }
 }
 
-/// Both were: each may explain it. A silence is not the connection's where that had credit again long before content came.
+/// Tells of touches of both, so that each may explain the pause. A silence is not the connection's if that had credit
+/// long before content came.
 fn tell_both(connection: &mut Evidence, stream: &mut Evidence, touches: [&Touch; 2], usual: &Usual) {
     let [of_connection, of_stream] = touches;
     if of_stream.length.is_none() || of_connection.length.is_none() {
@@ -340,7 +341,7 @@ fn give_back(connection: &mut Evidence, stream: &mut Evidence) {
 /// What the windows of a stream, or those of new ones, and the connection's tell of each other.
 pub struct Weighed {
     pub alone: f64,
-    /// Of pauses that the other window does not explain by itself.
+    /// The bits of pauses that the other window does not explain by itself.
     pub shared: f64,
 }
 

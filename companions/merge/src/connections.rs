@@ -58,7 +58,7 @@ impl<'a, W: Write> Writer<'a, W> {
         }
     }
 
-    /// A line that names no record of the part. One of a later version that did would need a number of the whole.
+    /// Writes a line that names no record. If one of a later version did, it would need a number of the whole.
     fn other(&mut self, report: &PartReport) -> Result<(), MergeError> {
         let is_known = KNOWN.iter().any(|word| report.line.starts_with(word));
         let names_record = !is_known && memchr::memmem::find(&report.line, b" record ").is_some();
@@ -69,7 +69,7 @@ impl<'a, W: Write> Writer<'a, W> {
         Ok(())
     }
 
-    /// A finding, whose record has its number in the whole.
+    /// Writes a finding, with its record's number in the whole.
     fn finding(&mut self, report: &mut PartReport) -> Result<(), MergeError> {
         let found = report.text().and_then(finding_in).map(|line| (line.record, line.record_at, is_fault(line.kind)));
         let (record, digits, is_fault) = found.ok_or_else(|| report.broken())?;

@@ -21,7 +21,7 @@ pub struct Beginning {
 pub struct Behind {
     /// Stalls that are claimed, by side, stream and the frame of their begin as the report has it.
     claimed: HashSet<(usize, u64, u64)>,
-    /// Those that go on, of each window the frame of the begin.
+    /// The windows, by side and stream, of claimed stalls that go on.
     open: HashSet<(usize, u64)>,
     /// Whether bytes of a side are missing.
     pub has_gap: bool,

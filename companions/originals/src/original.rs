@@ -1,7 +1,7 @@
 //! What a report of a capture that was made needs to become one of the original.
 //!
-//! It keeps 8 bytes for each record, and what is said of connections. What is said of packets that were passed over goes
-//! into a temporary file where it is long.
+//! It keeps 8 bytes for each record, and what is said of connections. What is said of packets that were passed over
+//! goes into a temporary file where it is long.
 
 use std::collections::HashMap;
 use std::io::{self, Write};
@@ -58,7 +58,7 @@ pub struct OriginalConnection {
 pub enum Joined {
     /// Nothing is inferred: the report has it as any other.
     Exact,
-    /// Likewise, and the report says so.
+    /// Nothing is inferred, and the report says how it was joined.
     ExactAndSaid(Vec<String>),
     /// What was made up goes off the report, which says so.
     Inferred(Rc<Beginning>),
@@ -81,8 +81,8 @@ impl Joined {
     }
 }
 
-/// A pair of endpoints that was not seen to open a connection: all its segments before any opening, of which the capture
-/// that was made may have the first alone; and what became of it, where that was asked for.
+/// A pair of endpoints that was not seen to open a connection: all its segments before any opening, of which the
+/// capture that was made may have the first alone; and what became of it, where that was asked for.
 pub struct Unopened {
     pub segments: u64,
     pub fate: Option<String>,
@@ -102,7 +102,7 @@ pub struct Original {
     pub capture: Capture,
     /// By the packets of their openings.
     connections: HashMap<u64, OriginalConnection>,
-    /// Those that were joined, likewise.
+    /// Those of them that were joined, also by the packets of their openings.
     joined: HashMap<u64, Joined>,
     /// Pairs of endpoints that were not seen to open a connection, where these are joined.
     unopened: HashMap<(String, String), Unopened>,
@@ -143,7 +143,7 @@ impl Original {
         self.addresses.insert(stand_in, original);
     }
 
-    /// A packet that was passed over, or is cut, as a report says why.
+    /// Adds a packet that was passed over, or is cut, with why as a report says it.
     pub fn add_passed(&mut self, packet: u64, why: &str) -> io::Result<()> {
         writeln!(self.passed_over, "record {packet} {why}")
     }
@@ -166,7 +166,7 @@ impl Original {
         self.joined.get(&opening)
     }
 
-    /// A pair of endpoints, of which the first one sent the first segment.
+    /// Adds a pair of endpoints, of which the first one sent the first segment.
     pub fn add_unopened(&mut self, ends: (String, String), pair: Unopened) {
         self.unopened.insert(ends, pair);
     }

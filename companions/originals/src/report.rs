@@ -126,7 +126,7 @@ impl<W: Write> Back<'_, W> {
         Ok(self.out.write_all(piece)?)
     }
 
-    /// The first line, for which stand the counts of the original, and what was passed over there.
+    /// Writes for the first line the counts of the original, and what was passed over there.
     fn capture(&mut self, text: &str) -> Result<(), Broken> {
         Capture::of(text.trim_end_matches('\n')).ok_or(Broken::NoReport)?;
         self.shown.is_there = true;
@@ -160,7 +160,7 @@ impl<W: Write> Back<'_, W> {
         self.put(&text.as_bytes()[line.record_at.end..])
     }
 
-    /// A stall, or how far the audit went, of a connection of which something is inferred.
+    /// Takes a stall, or how far the audit went, of a connection of which something is inferred.
     fn behind_beginning(&mut self, text: &str) -> Result<(), Broken> {
         let (beginning, behind) = match &self.beginning {
             Some(one) => one,
@@ -241,7 +241,8 @@ impl<W: Write> Back<'_, W> {
         }
     }
 
-    /// A flow. To its tail belong the bytes of a TLS record that the capture cuts, and it says why plaintext ended.
+    /// Writes a flow. To its tail belong the bytes of a TLS record that the capture cuts, and it says why plaintext
+    /// ended.
     fn flow(&mut self, flow: &Flow) -> Result<(), Broken> {
         let connection = self.opening.and_then(|opening| self.original.connection(opening));
         if matches!(connection, Some(connection) if matches!(connection.became, Became::Refused(_))) {

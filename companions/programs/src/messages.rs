@@ -6,7 +6,7 @@ use std::os::unix::ffi::OsStrExt;
 
 use crate::progress::without_line;
 
-/// One line on standard error. Nobody is told where that is closed.
+/// Writes a line on standard error. Nobody is told if that is closed.
 pub fn say(program: &str, message: &str) {
     without_line(|| drop(writeln!(std::io::stderr(), "{program}: {message}")));
 }

@@ -70,7 +70,7 @@ impl Output {
         file.set_len(0).and_then(|()| file.rewind())
     }
 
-    /// The file of this name is whole.
+    /// Gives the whole file its name.
     pub fn finish(mut self) -> Result<(), Failure> {
         let done = self.writer.flush().and_then(|()| match self.replaced.take() {
             Some(whole) => whole.take_place(),

@@ -32,8 +32,8 @@ fn put_long_number_and_comma(to: &mut Vec<u8>, number: u64) {
     to.push(b',');
 }
 
-/// The eight digits of a number that has no more, a byte each, the first one in the lowest byte. Of the number its
-/// halves are taken side by side, of these theirs, and of these the digits; a multiplication and a shift divide.
+/// The eight digits of a number that has no more, a byte each, the first one in the lowest byte. The number is
+/// halved, its halves are halved side by side, and these give the digits; a multiplication and a shift divide.
 fn eight_of(number: u64) -> u64 {
     let fours = (number / 10_000) | ((number % 10_000) << 32);
     let hundreds = (fours.wrapping_mul(10_486) >> 20) & 0x0000_007F_0000_007F;

@@ -87,7 +87,7 @@ impl<'a> Json<'a> {
         }
     }
 
-    /// A line ends, and another document begins.
+    /// Ends a line, so that another document begins.
     pub fn line(&mut self) {
         self.takes_comma();
         self.buffer.push(b'\n');
@@ -133,7 +133,7 @@ impl<'a> Json<'a> {
         self
     }
 
-    /// A word that needs no escapes.
+    /// Writes a word that needs no escapes.
     #[inline]
     pub fn word(&mut self, word: &'static str) {
         self.put(word.as_bytes(), b"\",");
@@ -155,7 +155,7 @@ impl<'a> Json<'a> {
         self.buffer.extend_from_slice(b"\",");
     }
 
-    /// A text that is made here, in room that is kept; nothing where it is empty.
+    /// Writes a text that is made here, in room that is kept, or null if it is empty.
     pub fn made_text(&mut self, make: impl FnOnce(&mut String)) {
         let mut text = std::mem::take(&mut self.room);
         make(&mut text);
@@ -180,7 +180,7 @@ impl<'a> Json<'a> {
         self.buffer.push(b',');
     }
 
-    /// The number divided by a thousand.
+    /// Writes the number divided by a thousand.
     pub fn thousandths(&mut self, number: i64) {
         let (whole, rest) = (number / 1_000, number.unsigned_abs() % 1_000);
         let sign = if number < 0 && whole == 0 { "-" } else { "" };
@@ -206,7 +206,7 @@ impl<'a> Json<'a> {
         }
     }
 
-    /// A text that may be missing, or empty, which counts as missing.
+    /// Writes a text that may be missing, or empty, which counts as missing.
     pub fn some_text(&mut self, text: Option<&str>) {
         self.some(text.filter(|text| !text.is_empty()), Json::text);
     }
@@ -305,7 +305,7 @@ fn special(word: u64) -> u64 {
     (below | above | has(b'"') | has(b'\\') | word) & HIGHEST
 }
 
-/// The text of a string: ASCII, with escapes for all else (RFC 8259, 7).
+/// Writes the text of a string: ASCII, with escapes for all else (RFC 8259, 7).
 fn escape(text: &str, to: &mut Vec<u8>) {
     let mut plain = 0;
     for (place, letter) in text.char_indices() {

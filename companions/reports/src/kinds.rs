@@ -55,7 +55,8 @@ pub(crate) struct Row {
     pub sentence: &'static str,
 }
 
-/// The rows in the order of their names, the shorter first, since lengths compare faster. The first has no name: it is a kind that a newer h2audit may have.
+/// The rows in the order of their names, the shorter first, since lengths compare faster. The first has no name: it is
+/// a kind that a newer h2audit may have.
 static KINDS: Lazy<Vec<Row>> = Lazy::new(|| {
     let mut rows: Vec<Row> = rows_of(TABLE).collect();
     rows.sort_by_key(|row| (row.name.len(), row.name));

@@ -1,5 +1,5 @@
 //! Reads maps of imports line by line (docs/MAP.md): which packet of which file completed a record of the capture that
-//! was made, and what became of each connection. Of records that were made up it is the packet that they stand for.
+//! was made, and what became of each connection. A record that was made up has the packet that it stands for.
 
 use std::fmt;
 use std::io::{self, BufRead};
@@ -42,7 +42,7 @@ impl From<io::Error> for MapError {
     }
 }
 
-/// A line of a map. Of other lines more may come with later versions, and what they say is read by who needs it.
+/// A line of a map. Later versions may have more of the other lines, and who needs one reads what it says.
 #[derive(Debug, PartialEq, Eq)]
 pub enum MapLine<'a> {
     File { number: u64, path: Vec<u8> },

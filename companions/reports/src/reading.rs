@@ -34,8 +34,8 @@ impl From<io::Error> for ReadError {
     }
 }
 
-/// The next line of at most so many bytes, with its line feed where it has one; empty at the end. A longer one comes in
-/// pieces.
+/// Reads the next line of at most so many bytes, with its line feed if it has one, and nothing at the end. A longer one
+/// comes in pieces.
 pub fn read_line(source: &mut impl BufRead, line: &mut Vec<u8>, most: usize) -> io::Result<()> {
     line.clear();
     source.take(most as u64).read_until(b'\n', line).map(drop)

@@ -82,7 +82,7 @@ impl<'a> Rows<'a> {
         self.fate = fate;
     }
 
-    /// The report is over.
+    /// Ends the rows behind the report.
     pub fn finish(mut self) -> io::Result<()> {
         self.end_of_line()?;
         self.end_of_connection()?;
@@ -211,7 +211,7 @@ fn unopened(json: &mut Json<'_>, position: u64, ends: [&str; 2], segments: u64) 
     json.number(segments);
 }
 
-/// The row of a connection: what opened it, and how it was joined where it began before the capture.
+/// Writes the row of a connection: what opened it, and how it was joined if it began before the capture.
 pub fn connection(
     json: &mut Json<'_>,
     opening: &Opening,
@@ -241,7 +241,7 @@ pub fn connection(
     json.some_word(joined);
 }
 
-/// The row of a finding, and how sure it is where something of its connection is inferred.
+/// Writes the row of a finding, and how sure it is if something of its connection is inferred.
 pub fn finding(json: &mut Json<'_>, connection: u64, position: u64, finding: &Finding, grade: Option<&'static str>) {
     json.word("findings");
     json.number(connection);
@@ -269,7 +269,7 @@ pub struct StoodStill {
     pub grade: Option<&'static str>,
 }
 
-/// The row of a stall.
+/// Writes the row of a stall.
 pub fn stall(json: &mut Json<'_>, connection: u64, position: u64, one: &StoodStill) {
     json.word("stalls");
     json.number(connection);

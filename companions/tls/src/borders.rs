@@ -1,7 +1,7 @@
 //! Finds the first border of records among the bytes of a side that are read from their middle on.
 //!
-//! Encrypted bytes look like the header of a record of application data at one place in 2^26. So a border is taken where
-//! header follows header up to the end of what is there. Each place is looked at once, whatever stands there.
+//! Encrypted bytes look like the header of a record of application data at one place in 2^26. So a border is taken
+//! where header follows header up to the end of what is there. Each place is looked at once, whatever stands there.
 
 use std::cmp::Reverse;
 use std::collections::BTreeMap;
@@ -31,7 +31,7 @@ impl Chain {
 #[derive(Default)]
 pub struct Borders {
     bytes: Vec<u8>,
-    /// From the place of the header that comes next. Of chains that meet there, the one with most headers goes on.
+    /// From the place of the header that comes next. Where chains meet, the one with most headers goes on.
     chains: BTreeMap<usize, Chain>,
     /// The best chain whose next header was met, of whole records.
     met: Option<Chain>,
@@ -88,8 +88,7 @@ impl Borders {
         }
     }
 
-    /// The chain with most whole records, behind which nothing stands but the beginning of one more; none where there is
-    /// no whole record.
+    /// The chain with most whole records, behind which only the beginning of one more stands; none without a record.
     pub fn best(&self) -> Option<Chain> {
         let length = self.bytes.len();
         let at_end = self.chains.range(..=length).filter(|(&place, _)| may_follow_cut(&self.bytes[place..]));

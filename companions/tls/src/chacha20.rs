@@ -32,7 +32,7 @@ impl KeyStream {
         KeyStream { state, word: offset % BLOCK / WORD, shift: 8 * (offset % WORD) as u32 }
     }
 
-    /// The byte for each of these nonces.
+    /// Makes the byte for each of these nonces.
     pub fn bytes(&self, nonces: &[[u8; 12]], made: &mut Vec<u8>) {
         made.clear();
         for some in nonces.chunks(LANES) {

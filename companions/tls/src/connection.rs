@@ -36,7 +36,7 @@ pub struct Shared {
 
 /// What takes plaintext.
 pub trait Emit {
-    /// The content of a record of a side, which this packet completed.
+    /// Takes the content of a record of a side, which this packet completed.
     fn emit(&mut self, side: usize, content: &[u8], arrival: Arrival);
 }
 

@@ -1,8 +1,8 @@
 //! Which record numbers may open a record with a key, told from one block of the key stream.
 //!
 //! The last byte of the plaintext is the type of the content, or padding (RFC 8446, 5.2): four values of 256. The block
-//! that covers it is made for thousands of numbers at once, and for those that pass, that of a neighbour. So one in 4,096
-//! has to prove its tag.
+//! that covers it is made for thousands of numbers at once, and for those that pass, that of a neighbour. So one in
+//! 4,096 has to prove its tag.
 
 use openssl::cipher_ctx::CipherCtx;
 use openssl::error::ErrorStack;
@@ -78,8 +78,8 @@ impl Bench {
         })
     }
 
-    /// A block is the nonce behind flags in CCM (RFC 3610, 2.3), and the counter: that of the content begins with 2 in GCM
-    /// (NIST SP 800-38D, 7.1) and 1 in CCM.
+    /// A block is the nonce behind flags in CCM (RFC 3610, 2.3), and the counter: that of the content begins with 2 in
+    /// GCM (NIST SP 800-38D, 7.1) and 1 in CCM.
     fn keep_by_aes(&mut self, suite: &Suite, last: &Last, keys: &TrafficKeys) -> Result<(), ErrorStack> {
         let count = (last.offset / BLOCK) as u32;
         let (flags, counter) = match suite.mode {

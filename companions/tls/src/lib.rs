@@ -1,13 +1,13 @@
 //! Reads TLS 1.2 and TLS 1.3 of captures, with the secrets of key logs: key schedules, records, and what both sides
-//! agree on. Every record has to prove its tag or its MAC. All primitives are OpenSSL's, of the system, but for a filter
-//! of guesses (`chacha20`), behind which the tag stands too.
+//! agree on. Every record has to prove its tag or its MAC. All primitives are OpenSSL's, of the system, but for a
+//! filter of guesses (`chacha20`), behind which the tag stands too.
 //!
 //! [`TlsConnection`] takes the segments of both sides, and hands plaintext to an [`Emit`] in the order in which its
 //! records were completed. [`Shared`] has what all connections share: the [`Keys`] that are known, and the [`Sessions`]
 //! that were met. [`Reason`] says why a side or a connection ended.
 //!
-//! [`TlsConnection::from_middle`] does so where the hellos were not seen, in TLS 1.3: borders → sample → search (filter)
-//! → middle. It [finds](Search) the secret and the number of a record for each side, and all records follow.
+//! [`TlsConnection::from_middle`] does so where the hellos were not seen, in TLS 1.3: borders → sample → search
+//! (filter) → middle. It [finds](Search) the secret and the number of a record for each side, and all records follow.
 //!
 //! No message, and no `Debug` text, ever holds a byte of a key or of plaintext.
 

@@ -1,7 +1,7 @@
 //! What waits of a connection that is read from its middle on, of each side until it is known what opens its records.
 //!
-//! The sides wait together until a secret of one is found, so that plaintext keeps its order. From then on the other one
-//! waits for its first whole record alone, which is tried at once by the secrets of that connection.
+//! The sides wait together until a secret of one is found, so that plaintext keeps its order. From then on the other
+//! one waits for its first whole record alone, which is tried at once by the secrets of that connection.
 
 use std::ops::Range;
 

@@ -16,7 +16,7 @@ pub struct Sealed<'a> {
 }
 
 impl Sealed<'_> {
-    /// With its header.
+    /// How long the record is, with its header.
     pub fn length(&self) -> usize {
         HEADER_LENGTH + self.body.len()
     }
@@ -61,8 +61,8 @@ impl<'a> Sample<'a> {
     }
 }
 
-/// Whether records that follow each other are of TLS 1.2 for sure: types show that TLS 1.3 hides (RFC 8446, 5.2), or all
-/// begin with a nonce that counts up by one, as GCM and CCM have it there (RFC 5288, 3; RFC 6655, 3). Without these
+/// Whether records that follow each other are of TLS 1.2 for sure: types show that TLS 1.3 hides (RFC 8446, 5.2), or
+/// all begin with a nonce that counts up by one, as GCM and CCM have it there (RFC 5288, 3; RFC 6655, 3). Without these
 /// signs it may be either version.
 pub fn is_tls_1_2(records: &[Sealed<'_>]) -> bool {
     let shows = |record: &Sealed<'_>| matches!(record.header[0], ALERT | HANDSHAKE) && record.body.len() > ALERT_LENGTH;

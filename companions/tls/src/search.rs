@@ -1,7 +1,7 @@
 //! Finds the secret and the number of records of TLS 1.3 whose hellos were not seen.
 //!
-//! A traffic secret alone gives key and IV (RFC 8446, 7.3), and its length tells the hash of the suite. So each secret of
-//! the key log is tried with each record number, the lower numbers of all secrets first, and then those after key
+//! A traffic secret alone gives key and IV (RFC 8446, 7.3), and its length tells the hash of the suite. So each secret
+//! of the key log is tried with each record number, the lower numbers of all secrets first, and then those after key
 //! updates. A tag leaves no doubt. How far this goes is bounded by numbers, and by time over all connections.
 
 use std::ops::Range;

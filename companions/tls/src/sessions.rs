@@ -13,7 +13,7 @@ use std::hash::{BuildHasher, Hasher};
 use crate::hellos::Random;
 use crate::key_log::{Keys, Label};
 
-/// What the connections say of sessions. Of names their hash is kept, which takes less memory.
+/// What the connections say of sessions. Only hashes of names are kept, which take less memory.
 #[derive(Default)]
 pub struct Sessions {
     /// From a name to the client's random.

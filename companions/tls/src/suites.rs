@@ -1,8 +1,8 @@
 //! Cipher suites of TLS 1.2 and TLS 1.3, and what each needs to open records.
 //!
-//! The names are those of IANA's registry. A name says all there is to say: what stands after WITH (or all of it, in TLS
-//! 1.3) is the cipher and the hash of the MAC or of the key schedule (RFC 5246, 6 and appendix C; RFC 5288, 5289, 5487,
-//! 5932, 6367, 6655, 7251, 7905 and 8442; RFC 8446, B.4).
+//! The names are those of IANA's registry. A name says all there is to say: what stands after WITH (or all of it, in
+//! TLS 1.3) is the cipher and the hash of the MAC or of the key schedule (RFC 5246, 6 and appendix C; RFC 5288, 5289,
+//! 5487, 5932, 6367, 6655, 7251, 7905 and 8442; RFC 8446, B.4).
 
 use crate::hashes::Hash;
 

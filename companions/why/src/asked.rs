@@ -42,7 +42,7 @@ pub struct Lost {
 pub struct Sums {
     places: HashMap<Matter, usize>,
     pub all: Vec<(Matter, Lost)>,
-    /// Those of the connection that is looked at.
+    /// The places of matters of the connection that is looked at.
     touched: Vec<usize>,
 }
 
@@ -92,8 +92,8 @@ pub struct Shown {
     pub asked: Vec<(Matter, Lost)>,
 }
 
-/// What puts requests first: a fault on their streams, that they hung, and for how long they were held back. What a back
-/// request of a proxy waited for is told of the front one that it carried, which is before it.
+/// What puts requests first: a fault on their streams, that they hung, and for how long they were held back. What a
+/// back request of a proxy waited for is told of the front one that it carried, which is before it.
 type Rank = (bool, bool, bool, Nanos, Nanos, usize, usize);
 
 impl Shown {

@@ -161,7 +161,7 @@ fn windows(json: &mut Json<'_>, charts: &ChartsSaid) -> io::Result<()> {
     Ok(())
 }
 
-/// The document of a report, and a line feed.
+/// Writes the document of a report, and a line feed.
 pub fn write_report(said: &ReportSaid, to: &mut dyn Write) -> io::Result<()> {
     let mut json = Json::new(to);
     json.open(b'{');
@@ -181,7 +181,7 @@ pub fn write_report(said: &ReportSaid, to: &mut dyn Write) -> io::Result<()> {
     json.finish()
 }
 
-/// The connections that were not audited, by reason, as an answer has them.
+/// Writes the connections that were not audited, by reason, as an answer has them.
 fn not_audited(json: &mut Json<'_>, connections: &[ReportedConnection]) {
     let mut reasons = BTreeMap::<String, u64>::new();
     for form in connections.iter().map(|one| &one.opening.form).filter(|form| !matches!(form, Form::Http2 { .. })) {

@@ -45,7 +45,7 @@ pub fn files_of(whole: &Whole<'_>) -> String {
     names.join(", ")
 }
 
-/// Those come first that were stalled longest, or live longer by so much.
+/// Writes the requests of both captures: first those that were stalled longest, or live longer by as much.
 fn pairs(both: &Compared<'_>, page: &mut Page<'_>) -> io::Result<()> {
     let mut ordered: Vec<&Pair<'_>> = both.pairs.iter().collect();
     ordered.sort_by_key(|pair| Reverse(pair.trouble().max(pair.growth())));
@@ -195,7 +195,7 @@ fn word_of(change: Ordering, [less, same, more]: [&'static str; 3]) -> &'static 
     }
 }
 
-/// A request of one of both captures.
+/// Writes a request of one of both captures.
 fn half(json: &mut Json<'_>, one: Option<&One<'_>>, of: &Whole<'_>) {
     let files = &of.answer.files;
     json.some(one.and_then(|one| one.request().map(|request| (one, request))), |json, (one, request)| {

@@ -1,4 +1,4 @@
-//! The answer for machines: one document, or a line for each request. companions/why/schema.json says what stands in it.
+//! The answer for machines: one document, or a line for each request, with what companions/why/schema.json says.
 
 mod names;
 
@@ -26,7 +26,7 @@ use names::{place_name, source_name, stall_end_name, stall_name};
 
 const VERSION: u32 = 1;
 
-/// The document, and a line feed; for a page with its charts, and of the requests those that it shows.
+/// Writes the document, and a line feed; for a page with its charts, and only the requests that it shows.
 pub fn write(whole: &Whole<'_>, shown: Option<&Shown>, to: &mut dyn Write) -> io::Result<()> {
     let answer = whole.answer;
     let mut json = Json::new(to);
@@ -64,7 +64,7 @@ pub fn write(whole: &Whole<'_>, shown: Option<&Shown>, to: &mut dyn Write) -> io
     json.finish()
 }
 
-/// A line for each request, with the connection that it is of.
+/// Writes a line for each request, with its connection.
 pub fn write_lines(whole: &Whole<'_>, to: &mut dyn Write) -> io::Result<()> {
     let mut json = Json::new(to);
     for one in whole.audited() {
@@ -121,7 +121,7 @@ pub fn place(json: &mut Json<'_>, at: Option<At>, files: &Files) {
     });
 }
 
-/// A connection with all its requests; or with those that a page shows, and its charts.
+/// Writes a connection with all its requests, or with those that a page shows, and its charts.
 fn connection(
     json: &mut Json<'_>,
     one: &SummedConnection<'_>,
@@ -218,7 +218,7 @@ fn round_trip(json: &mut Json<'_>, one: &RoundTrip) {
     });
 }
 
-/// The members of a fault.
+/// Writes the members of a fault.
 pub fn fault(json: &mut Json<'_>, said: &FaultSaid, files: &Files) {
     let finding = &said.finding;
     json.name("kind").text(finding.kind.name());
@@ -281,7 +281,7 @@ fn signal(json: &mut Json<'_>, one: &Signal, files: &Files) {
     });
 }
 
-/// The members of a request.
+/// Writes the members of a request.
 fn request(json: &mut Json<'_>, one: &Request, phrases: &Phrases<'_>, files: &Files) {
     name!(json, "stream").number(one.stream);
     name!(json, "name").some(one.name.as_deref(), Json::text);
@@ -320,7 +320,7 @@ fn direction(json: &mut Json<'_>, one: &Direction, opened: Nanos, files: &Files)
     });
 }
 
-/// One after the other, so that each name is known to the compiler.
+/// Writes one after the other, so that each name is known to the compiler.
 fn shares(json: &mut Json<'_>, all: &Shares) {
     let [waiting, sending, stream_stall, connection_stall, tcp, others, idle, unseen] = *all;
     mostly_0!(json, Share::Waiting.name(), waiting);

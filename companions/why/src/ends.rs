@@ -250,8 +250,9 @@ impl<'a> Both<'a> {
             let (more, less) = if sizes[0] > sizes[1] { (Side::Client, sizes[1]) } else { (Side::Server, sizes[0]) };
             let end = self.end(more);
             let packet = end.at((side, less)).map_or(0, |at| end.files.place(at.packet).1);
-            let frames = count(sizes[0].abs_diff(sizes[1]) as u64, "frame");
-            Some(format!("{frames} of the {side} from packet {packet} on are in the {more}'s capture alone"))
+            let lacking = sizes[0].abs_diff(sizes[1]) as u64;
+            let (frames, are) = (count(lacking, "frame"), if lacking == 1 { "is" } else { "are" });
+            Some(format!("{frames} of the {side} from packet {packet} on {are} in the {more}'s capture alone"))
         };
         SIDES.into_iter().filter_map(words).collect()
     }

@@ -47,7 +47,7 @@ pub struct RequestOfBoth {
 
 impl RequestOfBoth {
     pub fn words(&self) -> String {
-        let parts = self.parts.map_or("a capture has not all of it".to_string(), |parts| {
+        let parts = self.parts.map_or("a capture lacks a part of it".to_string(), |parts| {
             let Parts { request, out, server, back, transfer } = parts;
             let [request, out, server, back, transfer] = [request, out, server, back, transfer].map(time_of);
             format!("request {request}, way out {out}, server {server}, way back {back}, transfer {transfer}")
@@ -66,7 +66,8 @@ impl SentAgain {
         }
         let (segments, bytes, lost) =
             (count(self.segments, "segment"), count(self.bytes, "byte"), count(self.lost, "byte"));
-        format!("The {side} sent {segments} again, {bytes}; {lost} were lost, and were missing for {missing}")
+        let were = if self.lost == 1 { "was" } else { "were" };
+        format!("The {side} sent {segments} again, {bytes}; {lost} {were} lost, and {were} missing for {missing}")
     }
 }
 

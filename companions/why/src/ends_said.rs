@@ -78,7 +78,7 @@ fn connection(both: &Both<'_>, page: &mut Page<'_>) -> io::Result<()> {
     first_ones(&requests, "request", request_words, page)
 }
 
-/// A line for each of the first ones, or of all, and how many more there are.
+/// Writes a line for each of the first ones, or of all, and how many more there are.
 fn first_ones<T>(all: &[T], what: &str, words: impl Fn(&T) -> String, page: &mut Page<'_>) -> io::Result<()> {
     let most = if page.look.is_all { all.len() } else { all.len().min(MOST_SHOWN) };
     for one in &all[..most] {

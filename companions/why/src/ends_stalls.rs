@@ -226,7 +226,7 @@ impl<'a> Looking<'a, '_> {
             Some(begin) if self.stall.end.is_none() || end_there.is_some() => (begin, self.stall.end.is_none()),
             begin => {
                 let what = if begin.is_some() { "ended" } else { "began" };
-                return (Verdict::Unseen, format!("the {peer}'s capture has not the frame at which it {what}"));
+                return (Verdict::Unseen, format!("the {peer}'s capture lacks the frame at which it {what}"));
             }
         };
         if !is_open {

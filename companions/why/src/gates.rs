@@ -39,7 +39,7 @@ pub enum Reason {
 }
 
 impl Reason {
-    /// Those that `--fail-on` takes.
+    /// The reasons that `--fail-on` takes.
     pub const NAMED: [Reason; 14] = [
         Reason::Fault,
         Reason::CertainFault,
@@ -182,7 +182,7 @@ impl Finding<'_> {
         }
         let connections = &whole.answer.connections;
         for said in &whole.answer.not_audited {
-            // Of connections it is told with them.
+            // What was not audited of connections is told with these.
             if !connections.iter().any(|one| !one.is_audited() && why_not_audited(one) == said.reason) {
                 self.add(Reason::NotAudited, (0, None), || said.text.clone());
             }

@@ -14,10 +14,10 @@ use crate::wording::{count, time_of, SIDES};
 
 /// So many windows of a connection are named that were not seen to be used up.
 const MOST_WINDOWS: usize = 3;
-const PROVED: &str = "Of a connection that was joined, h2audit's report is proved of the capture that was \
-                      made: its packets as they stand, behind a beginning that was made up. Frames, and the faults that \
-                      are said to be certain, rest on packets alone; stalls that are marked rest on windows that are \
-                      inferred. Overruns cannot be seen there.";
+const PROVED: &str = "The report on a connection that was joined is proved of the capture that was made: its \
+                      packets as they stand, behind a beginning that was made up. Frames, and the faults that are said \
+                      to be certain, rest on packets alone; stalls that are marked rest on windows that are inferred. \
+                      Overruns cannot be seen there.";
 
 /// What was lost of a handshake, where nothing is inferred.
 fn lost(how: &JoinedHow) -> Option<(&'static str, &'static str)> {
@@ -180,7 +180,7 @@ pub fn proved(answer: &Answer) -> Option<&'static str> {
     answer.audited().any(is_inferred).then_some(PROVED)
 }
 
-/// The member of a connection.
+/// Writes the member of a connection.
 pub fn write(json: &mut Json<'_>, said: &ConnectionSaid) {
     json.some(said.joined.as_deref(), |json, joined| {
         json.object(|json| {

@@ -1,5 +1,5 @@
 //! The answer as a JUnit file, as Jenkins, GitLab and others read it: a suite for each connection, a test for each
-//! request, and one for the connection itself. Of two ends each capture has its suites.
+//! request, and one for the connection itself. With two ends each capture has its suites.
 //!
 //! Who reads such files follows a test by its name from run to run. So names have nothing that changes with each: no
 //! port of a client, number of a stream or folder, but the server, the request, and whose turn it is.
@@ -52,7 +52,7 @@ struct ByPlace<'a> {
     places: HashMap<u64, usize>,
 }
 
-/// The file: ASCII, with references for other characters.
+/// Writes the file: ASCII, with references for other characters.
 pub fn write(judged: &[Judged<'_>], to: &mut dyn Write) -> io::Result<()> {
     let by_place: Vec<ByPlace<'_>> = judged.iter().map(by_place).collect();
     let suites = || judged.iter().zip(&by_place).flat_map(|(one, failed)| suites_of(one, failed));
@@ -80,7 +80,7 @@ fn by_place<'a>(judged: &'a Judged<'_>) -> ByPlace<'a> {
 struct Suite<'a> {
     judged: &'a Judged<'a>,
     failed: &'a ByPlace<'a>,
-    /// With its turn among those to its server.
+    /// The connection, with its turn among those to its server.
     connection: Option<(&'a SummedConnection<'a>, usize)>,
 }
 

@@ -88,7 +88,7 @@ fn leg(json: &mut Json<'_>, one: &Leg, answer: &Answer) {
     json.object(|json| of_leg(json, one, answer));
 }
 
-/// A back request, and when it lived, from the front one's opening on.
+/// Writes a back request, and when it lived, from the front one's opening on.
 fn carrier(json: &mut Json<'_>, one: &Leg, opened: Nanos, answer: &Answer) {
     let said = answer.connections.get(one.connection).and_then(|said| said.requests.get(one.place));
     json.object(|json| {

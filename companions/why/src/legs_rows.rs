@@ -10,7 +10,7 @@ use crate::json::Json;
 use crate::legs::{braked, grade_name, hop_address, likeness_name, none_name};
 use crate::legs_said::Named;
 
-/// The row of a hop, which front requests name by its position.
+/// Writes the row of a hop, which front requests name by its position.
 pub fn hop(json: &mut Json<'_>, position: usize, one: &HopSaid, answer: &Answer) {
     let grades = &one.grades;
     json.word("hops");
@@ -34,7 +34,7 @@ pub fn hop(json: &mut Json<'_>, position: usize, one: &HopSaid, answer: &Answer)
     json.some_number(ask.map(|found| found.longest));
 }
 
-/// The rows of a front request; a back one is named in those of what it carried.
+/// Writes the rows of a front request; a back one is named in those of what it carried.
 pub fn request(json: &mut Json<'_>, of: &Request, place: (usize, usize), answer: &Answer) -> io::Result<()> {
     let legs = match answer.legs.of(place.0, place.1) {
         Some(legs) => legs,

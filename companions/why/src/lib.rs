@@ -83,7 +83,7 @@ pub fn write_compared(both: &Compared<'_>, look: Option<Look>, to: &mut dyn Writ
     }
 }
 
-/// Writes what both ends of connections tell of their requests and stalls, likewise.
+/// Writes what both ends of connections tell of their requests and stalls: text where it has a look, else JSON.
 pub fn write_joined(found: &Joined<'_>, look: Option<Look>, to: &mut dyn Write) -> io::Result<()> {
     match look {
         Some(look) => ends_said::write(found, &mut Page::new(look, &found.wholes[1].answer.files, to)),

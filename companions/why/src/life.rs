@@ -16,7 +16,7 @@ const NO_PART: Part = Part { nanos: 0, side: None, what: What::Unknown };
 #[derive(Clone, Copy)]
 struct Part {
     nanos: Nanos,
-    /// Whose it is, and what of it, behind "the server" or "its".
+    /// The side that it is of, and what of it, behind "the server" or "its".
     side: Option<Side>,
     what: What,
 }
@@ -39,7 +39,7 @@ pub fn life_of(request: &Request) -> Option<String> {
     Some(text).filter(|text| !text.is_empty())
 }
 
-/// Puts the same behind a text, or nothing.
+/// Writes the parts of a life behind a text, or nothing.
 pub fn put_life(text: &mut String, request: &Request) {
     let life = request.nanos();
     if matches!(request.cause.kind, CauseKind::None | CauseKind::Unseen) {

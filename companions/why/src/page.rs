@@ -49,7 +49,7 @@ impl<'a> Page<'a> {
         self.painted(text, Colour::Plain)
     }
 
-    /// A sentence, folded at the width where there is one; lines behind the first begin with the indent.
+    /// Writes a sentence, folded at the width if there is one; lines behind the first begin with the indent.
     pub fn folded(&mut self, text: &str, indent: &str, colour: Colour) -> io::Result<()> {
         let width = match self.look.width {
             Some(width) if letters(text) > width => width,

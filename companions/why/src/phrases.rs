@@ -56,7 +56,7 @@ impl<'a> Phrases<'a> {
         text
     }
 
-    /// Puts the same behind a text.
+    /// Writes what held back a request behind a text.
     pub fn put(&self, text: &mut String, request: &Request) {
         let cause = &request.cause;
         match cause.kind {
@@ -86,7 +86,7 @@ impl<'a> Phrases<'a> {
         }
     }
 
-    /// No cause is named: not stalled at all, or for less than counts.
+    /// Says that no cause is named: it was not stalled at all, or for less than counts.
     fn put_hardly(&self, text: &mut String, request: &Request) {
         let nanos = request.stalled_by_both();
         if nanos == 0 {
@@ -324,7 +324,7 @@ fn tcp_words(cause: &Cause) -> String {
     }
 }
 
-/// A side that sent nothing, and the credit that it had.
+/// Tells of a side that sent nothing, and of its credit.
 fn put_application(text: &mut String, request: &Request) {
     let cause = &request.cause;
     text.push_str("the ");
@@ -346,7 +346,7 @@ fn put_application(text: &mut String, request: &Request) {
     }
 }
 
-/// A side that sent all the time, how much, and on how many streams.
+/// Tells of a side that sent all the time, how much, and on how many streams.
 fn put_path(text: &mut String, request: &Request) {
     let cause = &request.cause;
     text.push_str("the ");

@@ -1,6 +1,6 @@
-//! The answer as rows for a database, which stand behind those of the report ([`reports::rows`]): a line of JSON for each
-//! request, each of its directions, each fault, and each connection that was not audited, and for both legs of a proxy
-//! (`legs_rows`). Connections of which something is inferred are not in that report, and have their rows here
+//! The answer as rows for a database, which stand behind those of the report ([`reports::rows`]): a line of JSON for
+//! each request, each of its directions, each fault, and each connection that was not audited, and for both legs of a
+//! proxy (`legs_rows`). Connections of which something is inferred are not in that report, and have their rows here
 //! (`joined_rows`). Letters that a terminal would act on are escapes in names, and long names are cut.
 
 use std::io::{self, Write};

@@ -41,7 +41,7 @@ pub fn broken(answer: &Answer) -> String {
     if !said.is_empty() {
         return said.join(" ");
     }
-    // Of a part alone a clean answer is one of that part.
+    // If only a part was audited, only that part is said to be clean.
     let is_partial = !answer.not_audited.is_empty()
         || !answer.cuts.is_empty()
         || answer.audited().any(|one| one.joined.is_some())

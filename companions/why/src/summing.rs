@@ -52,7 +52,7 @@ pub struct SummedConnection<'a> {
     pub phrases: Phrases<'a>,
     /// The first of its requests by rank.
     pub worst: Vec<Rank>,
-    /// Of each of its requests, in their order, whether nothing is named that held it back.
+    /// Whether no cause is named, by requests.
     pub uncaused: Vec<bool>,
 }
 
@@ -73,7 +73,7 @@ pub struct Tally {
     /// Held back by windows, and of these hung.
     pub held: u64,
     pub hung: u64,
-    /// Those that windows held back, and something else longer.
+    /// Requests that windows held back, and something else longer.
     pub partly: u64,
     pub tcp: u64,
     /// The longest time for which one was held back, by no application.

@@ -30,7 +30,7 @@ const PATH_UNKNOWN: &str = " (path unknown)";
 const PROVED: &str = "Faults and stalls are those of h2audit's proved report. Names, credits, lives, causes, TCP and \
                       place of capture are not: h2audit-why reads them from the frames and the packets.";
 
-const LEGS_PROVED: &str = "Of both legs of a proxy stalls are proved. Which request carried which, whose time it was, \
+const LEGS_PROVED: &str = "Stalls on both legs of a proxy are proved. Which request carried which, whose time it was, \
                            and that one stall is the reason of another, are not.";
 
 /// The side that waited for the connection's window, and why: told once, with the stream of which it was told.
@@ -70,7 +70,7 @@ pub fn write(whole: &Whole<'_>, look: Look, to: &mut dyn Write) -> io::Result<()
     Ok(())
 }
 
-/// Those with faults first, then those with hung requests, then by the time of the worst one.
+/// Writes connections: first those with faults, then those with hung requests, then by the time of the worst one.
 fn connections(whole: &Whole<'_>, page: &mut Page<'_>) -> io::Result<()> {
     let shown = by_trouble(whole);
     let most = if page.look.has_all_requests() { shown.len() } else { shown.len().min(MOST_CONNECTIONS) };
@@ -158,7 +158,7 @@ fn capital(text: &str) -> String {
     letters.next().map_or(String::new(), |first| first.to_uppercase().collect::<String>() + letters.as_str())
 }
 
-/// The requests of a connection, of which the hung ones come first, then those that were held back longest.
+/// Writes the requests of a connection: the hung ones first, then those that were held back longest.
 fn requests(one: &SummedConnection<'_>, answer: &Answer, page: &mut Page<'_>) -> io::Result<()> {
     let number = one.said.requests.len();
     let mut room = Room::default();
@@ -249,7 +249,7 @@ fn line_of(request: &Request, (name, width): (String, usize), before: &str, caus
     text
 }
 
-/// A stall without an end that no request hung in, as where every stream had ended.
+/// Writes a stall without an end in which no request hung, as where every stream had ended.
 fn idle_stall(said: &ConnectionSaid, page: &mut Page<'_>) -> io::Result<()> {
     if said.stalls.iter().all(|stall| stall.end.is_some()) {
         return Ok(());

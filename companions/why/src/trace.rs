@@ -105,8 +105,8 @@ impl Trace<'_> {
         Ok(())
     }
 
-    /// A row for the request and what the server sent of it; one more where the client sent content; and one where
-    /// it is told whose the time was at a proxy.
+    /// Writes a row for the request and what the server sent of it, one more if the client sent content, and one more
+    /// if it is told whose the time was at a proxy.
     fn request(
         &self,
         json: &mut Json<'_>,

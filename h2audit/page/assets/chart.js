@@ -114,7 +114,8 @@ class Chart {
     const { frames, nanos, credits, faults, stalls } = this.series;
     const here = faults.filter(fault => fault.point === row);
     const shared = stalls.filter(({ begin, end, times }) => times > 1 && begin <= row && row <= (end ?? row));
-    output.textContent = `Frame ${grouped(frames[row])}, ${duration(nanos[row])}: credit ${counted(credits[row], "byte")}`
+    output.textContent = `Frame ${grouped(frames[row])}, ${duration(nanos[row])}: credit `
+      + counted(credits[row], "byte")
       + here.map(({ kind, broke, times, isDoubtful }) =>
         `; ${isDoubtful ? "doubtful: " : ""}${kind} by the ${broke}${moreOf(times)}`).join("")
       + shared.map(({ times }) => `; ${grouped(times)} stalls share this shade`).join("");

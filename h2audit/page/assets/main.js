@@ -87,7 +87,7 @@ function list() {
   place();
 }
 
-// Of the charts whose names begin so.
+// Takes away the charts whose names begin so.
 function forget(place) {
   for (const [id, chart] of drawn) {
     if (!id.startsWith(place)) continue;

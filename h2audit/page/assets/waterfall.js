@@ -1,5 +1,5 @@
-// The waterfall: a row for each request, drawn as it comes into sight, and as high as its sentences. Its scale, axis and
-// zoom are those of the curve above it, which dygraphs draws.
+// The waterfall: a row for each request, drawn as it comes into sight, and as high as its sentences. Its scale, axis
+// and zoom are those of the curve above it, which dygraphs draws.
 
 const AHEAD = 6, MOST_POINTS = 1500, PRINTED_ROWS = 40, NARROW = 700, LANES_WIDE = 50;
 

@@ -19,7 +19,7 @@ from collections.abc import Iterator
 
 from bench import generate, wire
 from tests.programs import named
-from tools.tests.companions import companion
+from tools.tests.companions import companion, require_built
 from tools.tests.legs_written import mixed
 
 RUNS = ("$H2AUDIT",)
@@ -345,4 +345,5 @@ class Mixed(unittest.TestCase):
 
 
 if __name__ == "__main__":
+    require_built(*(path.name for path in (IMPORT, ANY, WHY, COMMENT)))
     unittest.main()

@@ -37,18 +37,9 @@ def sources(ending: str, first_line: re.Pattern[bytes]) -> list[pathlib.Path]:
 
 
 class Lines(unittest.TestCase):
-    def test_length(self) -> None:
-        too_long = [
-            f"{file.relative_to(TOP)}:{number}"
-            for file in sources(".py", PYTHON) + sources(".sh", SHELL)
-            for number, line in enumerate(file.read_text(encoding="utf-8").splitlines(), 1)
-            if len(line) > LONGEST
-        ]
-        self.assertEqual(too_long, [], f"more than {LONGEST} characters")
-
-    def test_length_in_crates(self) -> None:
-        files = [file for ending in ("rt", "antt") for file in sorted((TOP / "crates").glob(f"*/[!o]*/**/*.{ending}"))]
-        self.assertGreater(len(files), 500)
+    def are_short(self, files: list[pathlib.Path], least: int) -> None:
+        """There are more files than these, and none has a line that is too long."""
+        self.assertGreater(len(files), least)
         too_long = [
             f"{file.relative_to(TOP)}:{number}"
             for file in files
@@ -56,6 +47,25 @@ class Lines(unittest.TestCase):
             if len(line) > LONGEST and not WHOLE.fullmatch(line)
         ]
         self.assertEqual(too_long, [], f"more than {LONGEST} characters")
+
+    def test_length(self) -> None:
+        self.are_short(sources(".py", PYTHON) + sources(".sh", SHELL), 200)
+
+    def test_length_in_crates(self) -> None:
+        endings = ("rt", "antt")
+        self.are_short([file for end in endings for file in sorted((TOP / "crates").glob(f"*/[!o]*/**/*.{end}"))], 500)
+
+    def test_length_in_rust(self) -> None:
+        """The programs in Rust, with their help and schemas; `target` has what is built."""
+        endings = ("rs", "toml", "txt", "json")
+        folders = sorted(file.parent for file in (TOP / "companions").glob("*/Cargo.toml"))
+        files = [file for end in endings for folder in folders for file in sorted(folder.rglob(f"*.{end}"))]
+        self.are_short([TOP / "companions" / "Cargo.toml", *files], 200)
+
+    def test_length_on_pages(self) -> None:
+        """What pages and databases are made of."""
+        endings = ("js", "css", "html", "sql")
+        self.are_short([file for end in endings for file in sorted((TOP / "h2audit").rglob(f"*.{end}"))], 10)
 
 
 class Imports(unittest.TestCase):

@@ -17,7 +17,7 @@ from collections.abc import Callable
 
 from h2audit.report import VERSION
 from tools import version
-from tools.tests.companions import companion
+from tools.tests.companions import companion, require_built
 
 TIMED = True
 TOP = pathlib.Path(__file__).resolve().parents[3]
@@ -238,4 +238,5 @@ class Zsh(unittest.TestCase):
 
 
 if __name__ == "__main__":
+    require_built(*(f"h2audit-{name}" for name in IN_RUST))
     unittest.main()

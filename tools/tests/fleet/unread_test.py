@@ -163,7 +163,7 @@ class Said(unittest.TestCase):
         self.assertEqual(self.machine.run("empty", "captures"), (3, self.summary, empty))
         self.assertEqual(
             self.machine.run("--resume", "captures/stream_overrun_go.pcap", "captures"),
-            (1, f"{self.summary[:-1]}; 1 were there\n", ""),
+            (1, f"{self.summary[:-1]}; 1 was there\n", ""),
         )
         self.assertEqual(
             self.machine.run("--collect", "empty", "--resume"),
@@ -197,7 +197,7 @@ class Said(unittest.TestCase):
         )
         secret.chmod(0o755)
         found = self.machine.run("--resume", "captures")
-        self.assertEqual(found, (1, "2 captures: 2 with faults, 0 in which nothing was audited; 1 were there\n", ""))
+        self.assertEqual(found, (1, "2 captures: 2 with faults, 0 in which nothing was audited; 1 was there\n", ""))
         self.assertEqual(self.machine.ask("SELECT * FROM not_audited"), [])
 
     def test_links(self) -> None:

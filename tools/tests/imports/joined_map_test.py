@@ -43,7 +43,7 @@ class Maps(InFolder):
         self.any("--rows", rows[0], *words)
         self.any("--rows", rows[1], "--map", self.folder / "map", report=report)
         self.assertEqual(rows[0].read_bytes(), rows[1].read_bytes())
-        # Of what is made the first packet of a pair alone makes it.
+        # The line is made by the pair's first packet alone.
         plain = self.any("--h2audit", PROGRAM, *keys, path)[0]
         unopened = [[line for line in one.splitlines() if line.startswith(b"unopened")] for one in (plain, whole[0])]
         self.assertEqual(unopened[0], unopened[1])

@@ -35,7 +35,7 @@ readlink "$last" >> "$READ"
 if [ -e "$ONCE" ]; then rm "$ONCE"; %s; fi
 exec %s "$@"
 """
-# Of TLS, where a file is read twice, and a pipe cannot be: the reasons have other names.
+# A capture of TLS, whose file is read twice, as a pipe cannot be: the reasons have other names.
 TWICE = "hostile-version"
 EXAMPLE = tools.EXAMPLES / "paused_stream_node.pcap"
 Said = tuple[int, bytes, bytes, list[bytes]]

@@ -553,7 +553,7 @@ class Thinning(unittest.TestCase):
 
 
 class LargeTables(unittest.TestCase):
-    """What a large report has and the tables have not is said, and what is said is so."""
+    """What a large report has and the tables lack is said, and what is said is so."""
 
     def test_rows_are_as_many_as_is_said(self) -> None:
         report = crowded(700, 20, 2)

@@ -123,7 +123,7 @@ class Generated(BothEnds):
             cut.write_bytes(octets[: octets.rindex(struct.pack("<II", frames, frames)) - 8])
             pair = (cut, server) if capture == client else (client, cut)
             self.assertEqual(self.request(*pair)[1], [None] * 5)
-            self.assertIn("a capture has not all of it", ran("--ends", *pair).stdout.decode())
+            self.assertIn("a capture lacks a part of it", ran("--ends", *pair).stdout.decode())
 
     def test_sent_again(self) -> None:
         """The last bytes of an answer are lost and sent again after 300 ms, or sent again though they arrived."""

@@ -99,7 +99,7 @@ def judge_pairs(made: Judgement, answer: LegsAnswer, pairs: Pairs) -> None:
     made.fronts += len(backs)
     for front, asked in answer.requests.items():
         said = answer.carried_by(front)
-        # Of a try without content no truth is known, unless it is another's.
+        # What is true of a try without content is not known, unless it is another's.
         wrong = [grade for back, grade in said if fronts.get(back, front) != front]
         if front in backs and said and said[-1][0] not in backs[front]:
             wrong.append(said[-1][1])

@@ -109,6 +109,6 @@ def pairs(capture: bytes, hops: list[tuple[str, str]]) -> list[tuple[Request, Re
         for front, back in hops:
             fronts, backs = ([one for one in requests if one.server == server] for server in (front, back))
             if len(fronts) == 1:
-                # Of several tries with the same upload each is carried for the same request.
+                # Several tries with one upload are carried for one request.
                 made.update((fronts[0], one) for one in backs)
     return sorted(made)

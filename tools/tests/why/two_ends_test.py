@@ -99,7 +99,7 @@ class Verdicts(BothEnds):
             (connection,) = found["connections"]
             stalls = [one for one in connection["stalls"] if one["stream"] == 1]
             self.assertEqual([(one["verdict"], one["ask"]) for one in stalls], [("unseen", None)])
-            self.assertEqual(stalls[0]["text"], f"the client's capture has not the frame at which it {word}")
+            self.assertEqual(stalls[0]["text"], f"the client's capture lacks the frame at which it {word}")
             self.assertEqual(stalls[0]["begin"]["client"] is None, word == "began")
             self.assertIsNone(stalls[0]["end"]["client"])
             self.assertIsNotNone(stalls[0]["end"]["server"])

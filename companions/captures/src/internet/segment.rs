@@ -27,7 +27,7 @@ pub struct Segment<'a> {
     pub acknowledgement: u32,
     pub flags: u8,
     pub window: u16,
-    /// That of the IPv4 datagram; 0 with IPv6, which has none.
+    /// The identification of the IPv4 datagram; 0 with IPv6, which has none.
     pub identification: u16,
     /// Where the payload begins and ends in the datagram.
     pub start: usize,
@@ -77,7 +77,7 @@ impl<'a> Segment<'a> {
         self.front_length == 0 && packet.link.map_or(false, |link| is_audited_at(link, packet.data, at))
     }
 
-    /// That of a datagram of IPv4 which is known to hold one.
+    /// The segment of an IPv4 datagram that is known to hold one.
     #[inline]
     pub(super) fn of_ipv4(found: &InIpv4<'a>) -> Segment<'a> {
         let InIpv4 { datagram, original, tcp, sequence, acknowledgement, flags, start, end } = *found;
@@ -128,7 +128,7 @@ pub struct InIpv4<'a> {
 }
 
 impl<'a> InIpv4<'a> {
-    /// That of a packet, of which not all rules are looked at again; none of IPv6.
+    /// Finds the segment of a packet again, for which not all rules are looked at; none of IPv6.
     #[inline]
     pub fn again(packet: &Packet<'a>) -> Option<InIpv4<'a>> {
         match payload_of(packet.link?, packet.data) {

@@ -19,7 +19,7 @@ impl Records {
         File::open(path).map(|file| Records::of(file, header))
     }
 
-    /// Those of a file that is open, whose own place stays.
+    /// The records of a file that is open, whose own place stays.
     pub fn of(file: File, header: Header) -> Records {
         Records { view: FileView::new(file), header }
     }

@@ -145,7 +145,7 @@ pub struct Cause {
     pub sure: Option<Sure>,
     /// Whether the side sent nothing at all on the connection, where it sent nothing on the stream.
     pub is_silent: bool,
-    /// With a path: what the side sent on the connection meanwhile, and how many streams shared it.
+    /// If the path is the cause, what the side sent on the connection meanwhile, and how many streams shared it.
     pub content: u64,
     pub streams: u32,
 }

@@ -329,7 +329,7 @@ impl<'a> Fixed<'a> {
         }
     }
 
-    /// The same with client and upstream, front and back exchanged.
+    /// Says whose an instant of the request is: as for the answer, with client and upstream, front and back exchanged.
     fn of_request(&self, now: &Instant) -> Whose {
         let (front, back) = (now.front[0], now.back[0]);
         let is_held = now.is_held(0);

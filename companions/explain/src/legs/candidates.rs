@@ -11,7 +11,7 @@ use crate::legs::hops::Hop;
 use crate::legs::said::Likeness;
 use cutter::Numbers;
 
-/// Of more front requests that are alike and open at once none is told from the others.
+/// If more front requests that are alike are open at once, none of them is told from the others.
 pub const MOST_OPEN: usize = 100;
 /// So much content tells a request from others whatever their names are.
 const LEAST_CONTENT: u64 = 1000;
@@ -64,7 +64,7 @@ fn key_of(listener: usize, one: &Request, name: u32, fate: Fate) -> Key {
     (listener, u64::from(one.method) << 32 | u64::from(name), fate)
 }
 
-/// Those that are open, among others that have ended, and how many; and the last time at which there were too many.
+/// Front requests, of which some have ended, and how many are open; and the last time at which these were too many.
 #[derive(Default)]
 struct Open {
     fronts: Vec<usize>,
@@ -85,11 +85,11 @@ struct Table {
 
 pub struct Search<'a> {
     facts: &'a Facts,
-    /// Of each request the courses of both directions.
+    /// The courses of both directions, by requests.
     courses: &'a [[ByteCourse; 2]],
     /// The front listeners of each listener.
     fronts_of: Vec<Vec<usize>>,
-    /// Of each likeness from the first time on that some are compared by it.
+    /// A table for each likeness, from the first comparison by it on.
     open: [Option<Table>; NAMED.len()],
     ending: BinaryHeap<Reverse<(Nanos, usize)>>,
     /// Front requests by ids; none where two have the same.
@@ -110,7 +110,7 @@ impl<'a> Search<'a> {
         let is_front = |one: &Request| hops.iter().any(|hop| hop.front == facts.listener(one));
         for (at, one) in facts.requests.iter().enumerate().filter(|one| is_front(one.1)) {
             for (kind, id) in one.ids.iter().enumerate().filter(|id| *id.1 != 0) {
-                // Of two proxies one behind the other each listener has its own.
+                // Each listener has its own ids, since one proxy may stand behind another.
                 let key = (facts.listener(one) * 2 + kind, *id);
                 ids.entry(key).and_modify(|known| *known = None).or_insert(Some(at));
             }
@@ -227,7 +227,7 @@ impl<'a> Search<'a> {
         fronts.find_map(|front| *front).filter(|front| one.may_have_id_of(&self.facts.requests[*front]))
     }
 
-    /// Those that are open and alike, and which it can have answered, or tried to; and whether they are too many.
+    /// The alike front requests that are open and that it can have answered, or tried to; whether they are too many.
     fn alike(&mut self, back: usize, one: &Request, number: usize, is_answer: bool) -> (Vec<usize>, bool) {
         let broken = Some(BROKEN).filter(|_| self.has_broken);
         let fates = match (is_answer, one.is_whole()) {

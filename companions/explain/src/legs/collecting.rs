@@ -9,7 +9,7 @@ use crate::learning::Partial;
 use crate::legs::course::{ByteCourse, LEAST_STEPS, MOST_STEPS};
 use crate::legs::facts::Facts;
 
-/// Of each of the import's connections the frames of both sides whose rests did not come.
+/// The frames of both sides whose rests did not come, by the import's connections.
 pub type Partials = Vec<Option<[Option<Box<Partial>>; 2]>>;
 
 /// So many steps of all courses are kept.

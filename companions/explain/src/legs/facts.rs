@@ -49,8 +49,8 @@ pub struct Whole {
     pub brief: Brief,
 }
 
-/// The same without what its connection and its path come to. It is kept of each stream while frames come, so that
-/// hops are sought without reading all streams again.
+/// What of that is known without the connection and the last part of the path. It is kept of each stream while frames
+/// come, so that hops are sought without reading all streams again.
 #[derive(Clone, Copy, Debug, Default, PartialEq, Eq)]
 pub struct Brief {
     /// 0 where it is none: such a stream is never opened.
@@ -61,7 +61,7 @@ pub struct Brief {
     pub status: u32,
     pub contents: [u64; 2],
     pub opened: Nanos,
-    /// That of the answer.
+    /// The end of the answer.
     pub end: Nanos,
 }
 
@@ -85,7 +85,7 @@ pub struct Unread {
 #[derive(Debug, Default)]
 pub struct Facts {
     pub connections: Vec<LegConnection>,
-    /// Those of hops, by the times of their openings.
+    /// The requests of hops, by the times of their openings.
     pub requests: Vec<Request>,
     /// The names of listeners, addresses with ports.
     pub listeners: Vec<String>,
@@ -97,7 +97,7 @@ pub struct Facts {
 }
 
 impl Brief {
-    /// Of a stream that a client opened, if it was answered to its end.
+    /// The facts of a stream that a client opened and a server answered to its end; none of any other stream.
     pub fn of(stream: &Stream) -> Option<Brief> {
         let [asking, answer] = &stream.sides;
         let is_reset = answer.is_reset && stream.reset.is_some();
@@ -153,8 +153,8 @@ impl Request {
         !self.ways[1].is_open && self.ways[1].first.is_some()
     }
 
-    /// Whether it was opened within the life of a front request that has the same id. Its content may have been changed,
-    /// as by compression.
+    /// Whether it was opened within the life of a front request that has the same id. Its content may have been
+    /// changed, as by compression.
     pub fn may_have_id_of(&self, front: &Request) -> bool {
         front.opened <= self.opened.saturating_add(SLACK) && self.opened <= front.until
     }

@@ -21,7 +21,7 @@ pub struct Hop {
     pub back: usize,
 }
 
-/// By which names requests are compared.
+/// The names by which requests are compared.
 #[derive(Clone, Copy, Debug, PartialEq, Eq)]
 enum By {
     LastPart,
@@ -191,7 +191,7 @@ struct HopCounts {
 }
 
 impl HopCounts {
-    /// Half of all by the last part, or nearly all by any name; more than the other way round; and no hop over another one.
+    /// Half of all by the last part, or nearly all by any name; more than the other way round; and over no other hop.
     fn chosen(&self) -> Vec<Hop> {
         let hops = self.by_last.keys().chain(self.by_any.keys());
         let all: HashSet<Hop> = hops.filter(|hop| self.is_hop(hop) && self.is_better(hop)).copied().collect();

@@ -12,7 +12,8 @@ use crate::legs::said::{Brake, Part, Place, Whose};
 
 /// Shorter pieces are the proxy's own.
 const LEAST: Nanos = 1_000_000;
-/// Of a connection so many stalls are looked at, the longest; of a moment so many requests; and so much in all.
+/// How many stalls of a connection are looked at, the longest first; how many requests of a moment; and how many looks
+/// there are in all.
 const MOST_STALLS: usize = 256;
 const MOST_OPEN: usize = 1024;
 const MOST_LOOKS: usize = 1 << 22;
@@ -52,7 +53,7 @@ pub struct Others<'a> {
 }
 
 impl<'a> Others<'a> {
-    /// A pair, with its brakes in the direction of a side, on the connection that brings that.
+    /// Adds a pair, with its brakes in the direction of a side, on the connection that brings that.
     pub fn add(&mut self, side: usize, connection: usize, pair: Sharing<'a>, brakes: &[Brake]) {
         let shared = self.shared[side].entry(connection).or_default();
         let at = shared.pairs.len();

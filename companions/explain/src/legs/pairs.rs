@@ -1,4 +1,4 @@
-//! Pairs by elimination: a back request that only one front request fits is that one's, which then is none of another's.
+//! Pairs by elimination: a back request that fits one front request alone is its pair, and then no other one's.
 
 use std::collections::{BTreeSet, HashMap, HashSet};
 
@@ -82,7 +82,7 @@ impl<'a> Matching<'a> {
         claim.fronts.len() == 1 && !claim.is_crowded
     }
 
-    /// As long as some claim has one front request left, that one is not another's.
+    /// As long as some claim has one front request left, pairs these two, and takes that request from other claims.
     fn eliminate(&mut self) {
         let mut next: Vec<usize> = (0..self.claims.len()).filter(|at| self.is_single(*at)).collect();
         // What is most alike takes first.
@@ -107,7 +107,7 @@ impl<'a> Matching<'a> {
                 let claim = &mut self.claims[other];
                 let one = &self.facts.requests[claim.back];
                 let is_rival = claim.is_answer && one.is_whole() || one.opened > opened;
-                // Of two that only this one fits neither is told from the other.
+                // If two answers fit this front request alone, both keep it: nothing tells which one it was.
                 if other != at && is_rival && claim.fronts.len() > 1 {
                     claim.fronts.retain(|one| *one != front);
                     if self.is_single(other) {
@@ -118,7 +118,7 @@ impl<'a> Matching<'a> {
         }
     }
 
-    /// Those that fit one alone are sure; the others go in turn.
+    /// Back requests that fit one front request alone are sure; the others go in turn.
     fn paired(&self) -> Pairs {
         let mut pairs = Pairs::default();
         let mut answered = vec![0_u32; self.facts.requests.len()];

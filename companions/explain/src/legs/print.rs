@@ -1,5 +1,5 @@
-//! What the first frames of a connection are: one that was captured twice, as before and behind a forwarder, has the same
-//! twice, and no proxy between answers.
+//! What the first frames of a connection are: one that was captured twice, as before and behind a forwarder, has the
+//! same twice, and no proxy between answers.
 
 use std::hash::{BuildHasher, Hasher};
 

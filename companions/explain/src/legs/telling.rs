@@ -37,7 +37,7 @@ struct Carried<'a> {
     brakes: Vec<Brake>,
     /// Its stretches among those of all, where there are not too many.
     stretches: Option<Range<usize>>,
-    /// That of the back request, where it is too small for the way.
+    /// The window of the back request, where it is too small for the way.
     window: Option<i64>,
 }
 

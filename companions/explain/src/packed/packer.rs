@@ -56,7 +56,7 @@ impl Packer<'_> {
         numbers.iter().for_each(|number| self.number(u64::from(*number)));
     }
 
-    /// One that is 0 mostly.
+    /// Packs a number that is mostly 0.
     #[inline]
     pub(super) fn rare(&mut self, number: u64) {
         self.flag(number != 0);
@@ -82,7 +82,7 @@ impl Packer<'_> {
         self.option(value, |packer, value| packer.number(u64::from(value)));
     }
 
-    /// The first place, beside which others are told.
+    /// Packs the first place, beside which others are told.
     pub(super) fn opening(&mut self, at: At) {
         self.number(at.packet);
         self.bytes.extend_from_slice(&at.time.to_le_bytes());

@@ -6,7 +6,7 @@ use crate::stream::{Answered, Beside, Direction, Idle, RequestFields, Reset, Res
 use crate::unshown::Unshown;
 use crate::windows::CountedWindow;
 
-/// Of each byte of a number but its last one.
+/// The highest bit of each byte, which is set in all bytes of a number but the last.
 const HIGHEST_BITS: u64 = 0x8080_8080_8080_8080;
 
 /// Reads them; where there are no more, each is 0.
@@ -77,7 +77,7 @@ impl<'a> Unpacker<'a> {
         eight.try_into().map_or(0, u64::from_le_bytes)
     }
 
-    /// Of two bytes, or of eight at once, where there are so many.
+    /// Reads a number of more than one byte: two, or eight at once where there are so many.
     #[inline(never)]
     pub(super) fn long_number(&mut self) -> u64 {
         if let [low, high @ 0..=0x7F, rest @ ..] = self.bytes {
@@ -297,7 +297,7 @@ impl<'a> Unpacker<'a> {
     }
 }
 
-/// Of each of eight bytes the lower seven bits, without what is between them.
+/// Puts the lower seven bits of eight bytes beside each other.
 pub(super) fn squeezed(word: u64) -> u64 {
     let pairs = (word & 0x007F_007F_007F_007F) | (word & 0x7F00_7F00_7F00_7F00) >> 1;
     let fours = (pairs & 0x0000_3FFF_0000_3FFF) | (pairs & 0x3FFF_0000_3FFF_0000) >> 2;

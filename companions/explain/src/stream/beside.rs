@@ -16,8 +16,8 @@ pub struct Beside {
     pub ended: u32,
 }
 
-/// What a side sent on all streams: content, how long without a pause, and when last; streams that had content, and those
-/// of them that have ended.
+/// What a side sent on all streams: content, how long without a pause, and when last; streams that had content, and
+/// those of them that have ended.
 #[derive(Clone, Copy, Debug, Default)]
 pub struct Total {
     pub content: u64,

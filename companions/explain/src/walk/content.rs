@@ -60,7 +60,7 @@ impl Walk {
         }
     }
 
-    /// Content of a connection whose beginning was made up.
+    /// Takes content of a connection whose beginning was made up.
     #[inline(never)]
     pub(super) fn content_behind_beginning(&mut self, frame: &Frame<'_>) {
         let Walk { table, initials, windows, beginning, .. } = self;

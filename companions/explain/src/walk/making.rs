@@ -1,4 +1,4 @@
-//! Frames of a beginning that was made up: they move windows, open streams and fill tables, and nothing is told of them.
+//! Frames of a made-up beginning: they move windows, open streams and fill tables, and nothing is told of them.
 
 use super::{Asking, Frame, Walk, STREAM};
 use crate::charts::Left;

@@ -23,11 +23,11 @@ use crate::waiting::{Known, Original, Source, Waited, Waiting};
 pub(super) struct Ended {
     pub joined: Vec<JoinedConnection>,
     pub gaps: Vec<GapSaid>,
-    /// Of each pair of endpoints, in the order of first segments.
+    /// What became of each pair of endpoints, in the order of first segments.
     fates: Vec<Fate>,
     /// By connections, those whose records were opened.
     decrypted: Vec<(usize, Decrypted)>,
-    /// Of those that are joined, in the order in which they are, of which sides packets were captured.
+    /// The sides of which packets were captured, by connections in the order in which they were joined.
     captured: Vec<[bool; 2]>,
     /// Where the packets of pairs go, and of what follows gaps.
     pairs: Vec<Option<Way>>,
@@ -134,8 +134,8 @@ impl Importer<'_, '_> {
         reader.next()
     }
 
-    /// Joins connections that began before the capture, behind all others: first what is made up for them, and then their
-    /// packets, among which stands what is made up for those that go on behind gaps.
+    /// Joins connections that began before the capture, behind all others: first what is made up for them, and then
+    /// their packets, among which stands what is made up for those that go on behind gaps.
     pub(super) fn join(&mut self) -> Result<Ended, Early> {
         let mut ended = Ended::default();
         let mut joining = match self.joining.take() {
@@ -286,7 +286,7 @@ impl Importer<'_, '_> {
         Ok(waiting)
     }
 
-    /// Takes the packets of connections that are joined to these. Of those whose records were opened, packets tell of TCP
+    /// Takes the packets of connections that are joined to these. Where their records were opened, packets tell of TCP
     /// alone.
     fn take_waiting(&mut self, waiting: Waiting, ended: &mut Ended) -> Result<(), Early> {
         let mut waiting = waiting;
@@ -310,7 +310,7 @@ impl Importer<'_, '_> {
                 }
             }
         }
-        // Of some nothing is to be written.
+        // What has no packet to write begins here.
         (0..ended.parts.len()).try_for_each(|part| self.way_behind(part, ended).map(drop))
     }
 

@@ -119,7 +119,7 @@ pub fn import<T: Default>(
     import_in(&[path], keys, false, courses, take)
 }
 
-/// The same of several files, whose packets may be put in order of time.
+/// Imports several files, whose packets may be put in order of time.
 pub fn import_in<T: Default>(
     paths: &[&Path],
     keys: &Path,

@@ -11,16 +11,16 @@ use crate::{CLIENT, SERVER};
 mod tests;
 
 impl TlsConnection {
-    /// A connection of TLS 1.3 whose bytes are there from any place on, also within a record. Which side is the client's
-    /// need not be known: [`TlsConnection::client`] tells. Each side's offsets begin with its first byte that is there.
+    /// A connection of TLS 1.3 whose bytes are there from any place on, also within a record. Which side is the
+    /// client's need not be known: [`TlsConnection::client`] tells. Offsets count from each side's first byte.
     pub fn from_middle(number: u64, shared: &Shared) -> TlsConnection {
         TlsConnection { middle: Some(Box::default()), ..TlsConnection::new(number, shared) }
     }
 
-    /// What this connection of TLS 1.3 is behind bytes that are lost, of one side or both: it is read from its middle on,
-    /// by the secrets and from the numbers on that were reached. A side without a hole was read to its end, also what
-    /// came behind the other one's: its numbers are looked for from the first on, and from some key updates before the
-    /// last one. None where no application data of it was read.
+    /// What this connection of TLS 1.3 is behind bytes that are lost, of one side or both: it is read from its middle
+    /// on, by the secrets and from the numbers on that were reached. A side without a hole was read to its end, also
+    /// what came behind the other one's: its numbers are looked for from the first on, and from some key updates before
+    /// the last one. None where no application data of it was read.
     pub fn behind_loss(&self, number: u64, shared: &Shared) -> Option<TlsConnection> {
         let opens = |side: &usize| match self.is_whole[*side] {
             true => self.handshake.opened_from(*side),
@@ -42,7 +42,7 @@ impl TlsConnection {
         self.sides.iter_mut().for_each(|side| side.flow = Default::default());
     }
 
-    /// The index of the client's side. Of a connection that is read from its middle on, the secret tells that.
+    /// The index of the client's side. If the connection is read from its middle on, the secret tells that.
     pub fn client(&self) -> Option<usize> {
         match &self.middle {
             Some(_) if !self.handshake.is_joined() => None,
@@ -50,7 +50,7 @@ impl TlsConnection {
         }
     }
 
-    /// Whether it is TLS: records were met that follow each other, or one that was opened. Hardly any other bytes look so.
+    /// Whether it is TLS: records follow each other, or one was opened. Hardly any other bytes look so.
     pub fn has_records(&self) -> bool {
         let tells = |why: Reason| !matches!(why, Reason::NotTls | Reason::Tail(_));
         let ended = || self.sides.iter().any(|side| side.end.map_or(false, |(why, _)| tells(why)));

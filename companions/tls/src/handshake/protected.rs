@@ -77,7 +77,7 @@ impl Handshake {
         NOTHING
     }
 
-    /// A protected handshake message of TLS 1.3 that changes keys or says what is chosen (RFC 8446, 4).
+    /// Meets a protected handshake message of TLS 1.3 that changes keys or says what is chosen (RFC 8446, 4).
     fn meet_message(&mut self, side: usize, kind: u8, body: &[u8]) -> Result<(), Reason> {
         match (kind, self.stage(side)) {
             (hellos::ENCRYPTED_EXTENSIONS, _) if self.role(side) == SERVER => {

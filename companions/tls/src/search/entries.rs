@@ -15,7 +15,7 @@ use crate::{CLIENT, SERVER};
 pub struct FoundSecret {
     /// Which of the two samples it opens.
     pub side: usize,
-    /// Whose the secret is.
+    /// The side whose secret it is.
     pub role: usize,
     pub random: Random,
     pub suite: Suite,
@@ -97,7 +97,7 @@ impl Entry {
         self.from = 0;
     }
 
-    /// That it opens the record of this number.
+    /// Says that this secret opens the record of this number.
     pub fn found(&self, side: usize, suite: Suite, number: u64) -> FoundSecret {
         let Entry { random, role, stage, updates, .. } = *self;
         FoundSecret { side, role, random, suite, stage, updates, secret: self.secret.clone(), number }

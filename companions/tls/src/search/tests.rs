@@ -100,8 +100,8 @@ fn rate_of_tags(wrong: &Sealer, keys: &TrafficKeys, bytes: &[u8]) -> f64 {
     TRIES as f64 / begun.elapsed().as_secs_f64()
 }
 
-/// The whole of a search: a log of so many servers, of which the last one is meant, at a record of this number. Secrets of
-/// 32 bytes are tried with AES and with ChaCha20.
+/// The whole of a search: a log of so many servers, of which the last one is meant, at a record of this number. Secrets
+/// of 32 bytes are tried with AES and with ChaCha20.
 #[test]
 #[ignore = "measures"]
 fn speed_of_a_search() {
