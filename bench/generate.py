@@ -7,10 +7,10 @@ Shapes:
   chatty       one connection, one stream, many frames of a few bytes in each segment
   calls        one connection, a thousand streams that take turns with messages of 1,000 bytes
   streams      one connection, streams of three frames each
-  early        the same, after a grant that brings the connection's window above the largest
+  early        such streams, after a grant that brings the connection's window above the largest
 Shapes of what peers say, with header blocks, several frames in a segment, and acknowledgements of TCP:
   downloads    eight connections with one download each at a time, in DATA frames of 16,384 bytes, ample windows
-  reorder      the same, with segments of the server late, twice, and overlapping
+  reorder      such downloads, with segments of the server late, twice, and overlapping
   mixed        one connection, up to some hundred streams at once, with small frames of any kind
   many         two hundred connections at once, each with a few requests
   grpc         one connection, a thousand streams without end, with messages of about 100 bytes both ways
@@ -35,7 +35,7 @@ Shapes that a peer might make on purpose, each with as much of one thing as of t
   promised     streams that the server promises
   colliding    strays of pairs whose two ends differ in the same bits
   live         open streams, then acknowledgements that move the window of each
-  live_early   the same, after a grant that brings the connection's window above the largest
+  live_early   such streams, after a grant that brings the connection's window above the largest
 The same words always give the same bytes.
 """
 

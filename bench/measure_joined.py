@@ -2,11 +2,11 @@
 
     python3 -m bench.measure_joined [--import PROGRAM] [--generator GENERATOR] [--runs N] [--megabytes N] [SHAPE ..]
 
-Of each shape the capture is cut at a third of its packets, so that all its connections began before. Of N runs each in
-turn (5 without --runs) the least processor seconds count: of the plain import of the whole capture, that of the cut
-one, and the cut one with `--joined`, of which nearly as much is written as of the whole. Captures and what is made of
-them are files. `x whole`, whose goal is 1.5, and `x cut` are the third to the first and to the second. Behind it stands
-what the option costs where it joins nothing: the whole capture with `--joined`, to the first.
+The capture of each shape is cut at a third of its packets, so that all its connections began before. Three imports are
+run N times each in turn (5 without --runs), and the least processor seconds count: the plain one of the whole capture,
+that of the cut one, and that of the cut one with `--joined`, which writes nearly as much as that of the whole. Captures
+and what is made of them are files. `x whole`, whose goal is 1.5, and `x cut` are the third to the first and to the
+second. Behind it stands what the option costs where it joins nothing: the whole capture with `--joined`, to the first.
 
 GENERATOR SHAPE MEGABYTES 1 writes a capture; without one shapes are those of generate.py.
 """

@@ -141,7 +141,7 @@ def peak_of(process: int) -> float:
 
 
 def found(commands: list[list[str]]) -> Found:
-    """Runs each program once, and sees that it says what it should. Of long texts the front is read alone: a child's
+    """Runs each program once, and sees that it says what it should. Only the front of a long text is read: a child's
     peak counts from the memory of the process that starts it.
     """
     (report, _), (answer, own), (document, _) = said(commands[0]), said(commands[1], FRONT), said(commands[2], FRONT)
