@@ -50,8 +50,8 @@ FIGURES = (
 # and the greatest share by 23 %.
 MARGINS = (0.02, 0.02, 0.1, 0.0, 0.02, 0.15, 0.4)
 NOISE = (0.001, 0.001, 0.06, 0.0, 0.004, 0.04, 0.25)
-# Where a figure differs by more: here it is by a quarter, as turns decide which pages are full at once.
-WIDER = {("live --frames", "memory of several"): 0.3}
+# Where a figure differs by more: the threads' turns decide how many lists and pages are full at once, by a quarter.
+WIDER = {("live --frames", "memory of several"): 0.3, ("chatty --frames", "memory of several"): 0.3}
 STACK, LEFT = 512 << 10, 64 << 10
 # No figure of a capture of four times the size is more than so many times as large. With these captures the cost grows
 # with the square of the size (bench/README.md): of them a fourth is taken, not four times the size.
