@@ -6,7 +6,7 @@ use Rattle.std.proofs.Common.{length-drop}
 use Rattle.std.proofs.Common.{inl, inr}
 use Rattle.std.proofs.Math.Seq.{take-add}
 use Rattle.std.proofs.lemmas.Bool.{cases_lt, le-ltb, lt-ltb}
-use Rattle.std.proofs.lemmas.List.{length-take, length-take-le, take-append-drop, take_all}
+use Rattle.std.proofs.lemmas.List.{append-nil, length-take, length-take-le, take-append-drop, take_all}
 use Rattle.std.proofs.lemmas.List.{drop-take, take-take}
 use Rattle.h2_frames.proofs.Fronts.{header_of-append}
 use Rattle.h2_frames.proofs.Words.{Header, HoldsNoFrame, Makes, Spelled, body_of, header_of}
@@ -172,6 +172,16 @@ gathered tail more mid new head body none got next =
             own = rw all (λ nine. omega (arith, count, is_wanted, left, size, same, most));
           }
     ]
+
+-- got once, all bytes are used
+pub gathered_at_once : (tail more : List ℕ) (new : SideCutter) (n : ℕ) → HoldsNoFrame tail → n ≡ length more
+    → HasGot tail more n new → HasGathered tail more n new
+gathered_at_once tail more new n none all got =
+    let next : HasGot (tail ++ take n more) (drop n more) 0 new = record {
+      count = omega (arith, length-drop n more, all);
+      begun = subst (λ l. IsBegun l new) (sym (append-nil (tail ++ take n more))) got.begun;
+    } in
+    subst (λ k. HasGathered tail more k new) (omega (arith)) (gathered tail more new new n 0 none got next)
 
 -- a body is read from no more than the payload
 pub needed_within : (code flags size : ℕ) → needed code flags size ≤ size

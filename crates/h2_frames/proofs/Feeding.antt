@@ -244,6 +244,14 @@ module _ {V : Type 0} (after : List Frame → V → Type 0) where
       handed = on.handed;
     }
 
+    -- the same behind a tail of no bytes
+    pub cut_behind_none : (old new : Numbering V) (tail bytes left : List ℕ) (cutter : SideCutter) → tail ≡ []
+        → HasGoneOn after source old bytes left new → HoldsNoFrame left → IsBegun left cutter
+        → HasCut after source old (tail ++ bytes) cutter new
+    cut_behind_none old new tail bytes left cutter empty on none begun =
+        subst (λ l. HasCut after source old l cutter new) (ap (λ l. l ++ bytes) (sym empty))
+        (cut_rest old new bytes left cutter on none begun)
+
     -- one frame more of those at the front of bytes
     pub gone_more : (old mid new : Numbering V) (bytes rest left header payload : List ℕ) (s : Spelled)
         → HasGoneOn after source old bytes rest mid → rest ≡ header ++ payload ++ left → Makes header payload s

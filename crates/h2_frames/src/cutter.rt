@@ -6,11 +6,11 @@ ghost use Rattle.h2_frames.specs.code.Handed.{HasRoomFor};
 ghost use Rattle.h2_frames.specs.code.Cutter.{HasAdded, HasCut, HasGathered, HasGoneOn, HasGot, IsBegun};
 ghost use Rattle.h2_frames.specs.code.Cutter.{IsHeaderOf, IsOne, IsTakenOut};
 
-use crate::bodies::{body_of_front, needed};
+use crate::bodies::{body_of, body_of_front, needed};
 use crate::headers::{HEADER_LENGTH, Header};
 use crate::numbering::Numbering;
 use crate::side_frames::Source;
-use crate::spelling::{Spelled, first_frame};
+use crate::spelling::{Spelled, first_parts};
 use crate::visitor::FrameVisitor;
 use std::alloc::{AllocError, Global};
 
@@ -97,6 +97,9 @@ impl SideCutter {
             → IfOk result (λ n. HasGathered tail more.now n self.new) }
     {
         let header = self.add_wanted(more)?;
+        if header == more.len() {
+            return Ok(header);
+        }
         let payload = self.add_wanted(&more[header..])?;
         Ok(header + payload)
     }
@@ -191,7 +194,9 @@ impl SideCutter {
             return Ok(());
         }
         let rest = hand_on_all(alloc, source, more, stage)?;
-        self.gather(rest)?;
+        if !rest.is_empty() {
+            self.gather(rest)?;
+        }
         Ok(())
     }
 
@@ -227,8 +232,9 @@ fn hand_on_all<'b, V: FrameVisitor>(
     ensures on { IfOk result (λ rest. HasGoneOn V.after source stage.old bytes.now rest.now stage.new) }
 {
     let mut rest = bytes;
-    while let Some((spelled, later)) = first_frame(rest) {
-        stage.hand_on(alloc, source, spelled)?;
+    while let Some((header, payload, later)) = first_parts(rest) {
+        let body = body_of(header.code, header.flags, payload);
+        stage.hand_on(alloc, source, Spelled { header, body })?;
         rest = later;
     }
     Ok(rest)

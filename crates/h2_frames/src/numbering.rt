@@ -20,6 +20,7 @@ pub(crate) struct Numbering<V> {
 
 impl<V: FrameVisitor> Numbering<V> {
     /// Hands on the next frame, which a source completes.
+    #[inline(always)]
     pub fn hand_on(
         &mut self,
         alloc: Global,

@@ -50,6 +50,7 @@ impl SideFrame {
 
 impl Spelled {
     /// The frame of this number that the last byte which a source brings completes.
+    #[inline(always)]
     pub(crate) fn brought(self, source: Source, number: u32) -> Frame
         requires { self.header.length < 2 ^ 24 }
         ensures { result ≡ frame_of source number self }

@@ -47,7 +47,8 @@ fn segment_of(number: u32, row: &Record, partial: bool, at: usize, datagram: &[u
 /// What a record with these captured bytes holds: the first line of the table that applies.
 ///
 /// `link` is the link type of the capture, 1 (Ethernet) or 101 (raw IP); `number` is the record's.
-#[inline]
+// In line, since it is called once, for each record: as a call what it decides was copied.
+#[inline(always)]
 #[tactic(auto, using(crate::proofs::Headers::stands_anywhere))]
 pub(crate) fn decision_on(link: u16, number: u32, row: &Record, packet: &[u8]) -> Packet
     requires linked { IsTrue (is_read link) }

@@ -5,13 +5,13 @@ use Rattle.audit_terms.specs.Side.{is_side, other}
 use Rattle.audit_terms.specs.Window.{is_used_up, largest_window, overflows, overruns, stall_begins, stall_ends}
 use Rattle.audit_terms.specs.code.Sides.{with_side}
 use Rattle.std.proofs.lemmas.Int.{ints}
-use Rattle.stream_credit.proofs.Words.{◌≡◌, ℕ, ℤ, nat_lt, Bool, false, None, Some, Option, [], refl, sym, arith}
+use Rattle.stream_credit.proofs.Words.{◌≡◌, ℕ, ℤ, nat_lt, Bool, true, false, None, Some, Option, [], refl, sym, arith}
 use Rattle.stream_credit.proofs.Words.{Client, Server, Side, Sides, Frame, Change, side_of, new_limit, new_push}
 use Rattle.stream_credit.proofs.Words.{and-false, int_lt, nat_tests, subst, ◌&&◌}
 use Rattle.stream_credit.proofs.QuietSteps.{both, said-quiet, unsaid}
 use Rattle.quiet_pass.specs.declared.kept_connection.KeptConnection.{KeptConnection}
 use Rattle.quiet_pass.specs.code.Connection.{AreCreditsAfter, IsConnectionAfter, IsCountedCredit, IsCreditAfter}
-use Rattle.quiet_pass.specs.code.Connection.{IsLoneCredit, IsOpenedAfter, IsPromisedAfter, LeavesCredit}
+use Rattle.quiet_pass.specs.code.Connection.{HasCredits, IsOpenedAfter, IsPromisedAfter, LeavesCredit}
 
 pub connection-met : (frame : Frame) (opens : Bool) (change : Option Change) (old : KeptConnection)
     (opened promised push : ℕ) (credit : Sides ℤ) (limit : Sides ℕ)
@@ -92,9 +92,20 @@ unpromised frame push promised none = record {
 }
 
 pub lone-met : (frame : Frame) (old : KeptConnection) (credit : Sides ℤ) → is_server_promise frame ≡ false
-    → nat_lt (side_of frame.side old.state.limit) frame.length ≡ false
-    → AreCreditsAfter frame old.state.credit credit → IsLoneCredit frame old credit
-lone-met frame old credit none short moves =
+    → HasCredits frame old credit
+    → IsConnectionAfter frame false None old (record { state = record old.state { credit = credit } })
+lone-met frame old credit none has =
     let now = old.state in
-    connection-met frame false None old now.opened now.promised now.push credit now.limit short
-    (record { opened = λ _. refl; said = λ _. refl }) (unpromised frame now.push now.promised none) moves refl refl refl
+    connection-met frame false None old now.opened now.promised now.push credit now.limit has.short
+    (record { opened = λ _. refl; said = λ _. refl }) (unpromised frame now.push now.promised none) has.moved refl refl
+    refl
+
+-- ---- a frame that opens its stream and promises nothing
+
+pub opening-met : (frame : Frame) (old : KeptConnection) (credit : Sides ℤ) (opened : ℕ)
+    → is_server_promise frame ≡ false → HasCredits frame old credit → IsOpenedAfter frame true old.state.opened opened
+    → IsConnectionAfter frame true None old (record { state = record old.state { credit = credit; opened = opened } })
+opening-met frame old credit opened none has opens =
+    let now = old.state in
+    connection-met frame true None old opened now.promised now.push credit now.limit has.short opens
+    (unpromised frame now.push now.promised none) has.moved refl refl refl

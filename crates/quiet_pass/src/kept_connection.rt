@@ -1,13 +1,13 @@
 //! The connection between two frames. A frame is met quietly if the window that it moves has credit before it and
 //! after it.
 
-ghost use Rattle.std.specs.Prelude.{◌≡◌, false, Option};
+ghost use Rattle.std.specs.Prelude.{◌≡◌, true, false, Option};
 ghost use Rattle.std.specs.Bool.{OnTrue, OnFalse};
 ghost use Rattle.std.specs.Option.{ForSome};
 ghost use Rattle.audit_terms.specs.Frame.{is_server_promise};
 ghost use Rattle.audit_terms.specs.Connection.{connection_start};
 ghost use Rattle.quiet_pass.specs.code.Connection.{AreCreditsAfter, IsConnectionAfter};
-ghost use Rattle.quiet_pass.specs.code.Connection.{IsCountedCredit, IsCreditAfter, IsLoneCredit, IsOpenedAfter};
+ghost use Rattle.quiet_pass.specs.code.Connection.{HasCredits, IsCountedCredit, IsCreditAfter, IsOpenedAfter};
 ghost use Rattle.quiet_pass.specs.code.Connection.{IsPromisedAfter, LeavesCredit};
 
 use audit_terms::standings::{balance, kept};
@@ -56,12 +56,11 @@ impl KeptConnection {
         true
     }
 
-    /// The credits of both sides after a frame that opens no stream, promises none and brings no change, as most do, if
-    /// that shows nothing.
+    /// The credits of both sides after a frame, if they and its length show nothing: most frames bring the connection
+    /// nothing else.
     #[inline(always)]
     pub(crate) fn credit_after_lone(&self, frame: &Frame) -> Option<Sides<i64>>
-        requires { is_server_promise frame.now ≡ false }
-        ensures { ForSome result (IsLoneCredit frame.now self.now) }
+        ensures { ForSome result (HasCredits frame.now self.now) }
     {
         if self.state.limit.of(frame.side) < frame.length.get() {
             return None;
@@ -69,7 +68,25 @@ impl KeptConnection {
         self.credits_after(frame)
     }
 
-    /// Meets such a frame, and returns false if that may show something.
+    /// The connection after a frame that leaves these credits, opens its stream and promises none, if that shows
+    /// nothing.
+    pub(crate) fn opened_by(&self, frame: &Frame, credit: Sides<i64>) -> Option<KeptConnection>
+        requires unpromised { is_server_promise frame.now ≡ false }
+        requires credit { HasCredits frame.now self.now credit }
+        ensures { ForSome result (IsConnectionAfter frame.now true Option.None self.now) }
+    {
+        let opened = self.opened_after(frame, true)?;
+        Some(KeptConnection {
+            state: ConnectionState {
+                credit,
+                opened,
+                ..self.state
+            },
+        })
+    }
+
+    /// Meets a frame that opens no stream, promises none and brings no change, and returns false if that may show
+    /// something.
     #[inline]
     pub(crate) fn meet_lone(&mut self, frame: &Frame) -> bool
         requires { is_server_promise frame.now ≡ false }

@@ -8,6 +8,7 @@ ghost use Rattle.audit_terms.specs.Side.{is_side};
 ghost use Rattle.audit_terms.specs.Frame.{is_ack, is_server_promise};
 ghost use Rattle.audit_terms.specs.code.LastFrame.{last_of};
 ghost use Rattle.audit_terms.specs.code.runs.Orderly.{IsInRange};
+ghost use Rattle.quiet_pass.specs.code.Connection.{HasCredits};
 ghost use Rattle.quiet_pass.specs.code.QuietPass.{BringsNothing, IsQuietStep, IsRestMet, MovesNoStream};
 ghost use Rattle.quiet_pass.specs.code.QuietPass.{StandsFor};
 
@@ -100,24 +101,25 @@ impl QuietPass {
                 self.connection.state.credit = credit;
                 Ok(true)
             }
-            Meeting::WithoutRow => self.meet_opening(frame),
+            Meeting::WithoutRow => self.meet_opening(frame, credit),
             Meeting::Shown => Ok(false),
         }
     }
 
-    /// Meets a frame on a stream that has no row, but is to have one, and returns false if that may show something.
+    /// Meets a frame on a stream that has no row, but is to have one, where it leaves these credits of the connection,
+    /// and returns false if that may show something.
     // The connection is asked first, so that a refusal leaves the machine as it was.
-    fn meet_opening(&mut self, frame: &Frame) -> Result<bool, AllocError>
+    fn meet_opening(&mut self, frame: &Frame, credit: Sides<i64>) -> Result<bool, AllocError>
         requires range { IsInRange frame.now }
         requires unpromised { is_server_promise frame.now ≡ false }
+        requires credit { HasCredits frame.now self.old.connection credit }
         requires plain { BringsNothing frame.now }
         ensures quiet { IfOk result (λ met. OnTrue met (IsRestMet frame.now self.old self.new)) }
         ensures left { IfOk result (λ met. OnFalse met (self.new ≡ self.old)) }
     {
-        let mut connection = self.connection;
-        if !connection.meet(frame, true, &None) {
+        let Some(connection) = self.connection.opened_by(frame, credit) else {
             return Ok(false);
-        }
+        };
         if !self.streams.open(&self.initial, frame)? {
             return Ok(false);
         }

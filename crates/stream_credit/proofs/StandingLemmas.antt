@@ -10,6 +10,7 @@ use Rattle.stream_credit.proofs.Words.{stream_window_said, opened_of, AreQuiet, 
 use Rattle.stream_credit.proofs.Words.{IsOpeningStanding, IsNextOpened, IsOpenedBy, life_of, stream_of}
 use Rattle.stream_credit.proofs.Words.{Standings}
 use Rattle.audit_terms.specs.Frame.{promises}
+use Rattle.stream_credit.specs.code.Standings.{of_side, sided}
 use Rattle.audit_terms.specs.Life.{idle_life, is_opening}
 use Rattle.stream_credit.proofs.QuietSteps.{both, unsaid, frame-quiet, IsQuietAt, quiet-one, quiet-ended}
 use Rattle.stream_credit.proofs.QuietSteps.{stream-quiet, stream-moved}
@@ -120,6 +121,17 @@ opened-next frame old client server numbered used late zero c s =
         (side_of d (stream_of (record { opened = old.opened; client = client; server = server })).window)
     quiet initial Client = record { said = c.said initial; after = sym (c.window initial) }
     quiet initial Server = record { said = s.said initial; after = sym (s.window initial) }
+
+-- the same, by sender and receiver
+pub opened-next-by : (sender : Side) (frame : Frame) (old : Standings) (own heard : ℕ) → (old.opened ≡ 0 → ⊥)
+    → is_not_opened frame.stream (life_of old) frame ≡ false → is_after_end (life_of old) frame ≡ false
+    → is_zero_grant frame.body ≡ false → IsStandingAfter sender frame (of_side sender old) own
+    → IsStandingAfter (other sender) frame (of_side (other sender) old) heard
+    → IsNextOpened frame old (sided sender old.opened own heard)
+opened-next-by Client frame old own heard numbered used late zero sent met =
+    opened-next frame old own heard numbered used late zero sent met
+opened-next-by Server frame old own heard numbered used late zero sent met =
+    opened-next frame old heard own numbered used late zero met sent
 
 -- ---- a stream that a frame opens
 

@@ -10,6 +10,7 @@ ghost use Rattle.audit_terms.specs.Stream.{idle_stream};
 ghost use Rattle.stream_credit.specs.code.Looks.{is_live};
 ghost use Rattle.stream_credit.specs.code.Standings.{IsStandingAfter, IsOpeningStanding, opened_of, life_of, stream_of};
 ghost use Rattle.stream_credit.specs.code.Standings.{IsNext, IsNextOpened, IsOpenedBy, IsStandingOf, AreMovedBy};
+ghost use Rattle.stream_credit.specs.code.Standings.{of_side, sided};
 
 use audit_terms::standings::{
     ENDED, balance, has_credit, has_ended, kept, standing_after_change, without_window,
@@ -141,13 +142,36 @@ impl Standings {
         {
             return None;
         }
-        // The second side is asked only after the first has answered: to ask both first took seven instructions more
-        // for each frame.
-        Some(Standings {
-            opened: self.opened,
-            client: standing_after(self.client, Side::Client, frame)?,
-            server: standing_after(self.server, Side::Server, frame)?,
-        })
+        // Of the sender and the receiver most questions answer themselves, whichever the client is.
+        let sender = frame.side;
+        let sent = standing_after(self.of_side(sender), sender, frame)?;
+        let heard = standing_after(self.of_side(sender.other()), sender.other(), frame)?;
+        Some(Self::sided(self.opened, sender, sent, heard))
+    }
+
+    /// How a side stands.
+    fn of_side(&self, side: Side) -> u32
+        ensures { result ≡ of_side side self.now }
+    {
+        match side {
+            Side::Client => self.client,
+            Side::Server => self.server,
+        }
+    }
+
+    /// A stream on which a side stands so, and the other one so.
+    fn sided(opened: u32, side: Side, own: u32, other: u32) -> Self
+        ensures { result ≡ sided side opened own other }
+    {
+        let (client, server) = match side {
+            Side::Client => (own, other),
+            Side::Server => (other, own),
+        };
+        Standings {
+            opened,
+            client,
+            server,
+        }
     }
 
     /// The stream after a frame that it meets, if it is opened and the frame shows nothing.
@@ -214,6 +238,7 @@ fn standing_of(window: Option<i64>, is_ended: bool) -> Option<u32>
 }
 
 /// How a side stands after a frame on the stream, which is opened, if nothing of that is shown (RFC 9113, 5.1, 6.9.1).
+#[inline(always)]
 fn standing_after(standing: u32, side: Side, frame: &Frame) -> Option<u32>
     ensures { ForSome result (IsStandingAfter side frame.now standing) }
 {
@@ -226,6 +251,7 @@ fn standing_after(standing: u32, side: Side, frame: &Frame) -> Option<u32>
 
 /// How it stands where its window is live: the frame does not send more than there is, and grants no more than the
 /// largest window holds.
+#[inline(always)]
 fn live_after(credit: u32, side: Side, frame: &Frame) -> Option<u32>
     requires { has_credit credit ≡ true }
     ensures { ForSome result (IsStandingAfter side frame.now credit) }

@@ -1,8 +1,10 @@
 -- The connection between two frames, as it is kept. No public clause cites this.
-use Rattle.std.specs.Prelude.{◌≡◌, ℕ, ℤ, false, pos, ◌+ℤ◌, ◌-ℤ◌, int_lt, max, Bool, if◌then◌else◌, [], None, Option}
+use Rattle.std.specs.Prelude.{◌≡◌, ℕ, ℤ, false, pos, ◌+ℤ◌, ◌-ℤ◌, int_lt, nat_lt, max, Bool, if◌then◌else◌, []}
+use Rattle.std.specs.Prelude.{Option}
 use Rattle.audit_terms.specs.declared.sides.Side.{Side}
 use Rattle.audit_terms.specs.declared.sides.Side.TheVariants.{Client, Server}
 use Rattle.audit_terms.specs.declared.sides.Sides.{Sides}
+use Rattle.audit_terms.specs.Sides.{side_of}
 use Rattle.audit_terms.specs.declared.frames.Frame.{Frame}
 use Rattle.audit_terms.specs.declared.items.Change.{Change}
 use Rattle.audit_terms.specs.declared.items.Item.{Item}
@@ -24,11 +26,6 @@ pub record IsConnectionAfter (frame : Frame) (opens : Bool) (change : Option Cha
   pub said : AreQuiet (connection_said old.state (as_item frame opens change))
   pub after : new.state ≡ connection_after old.state (as_item frame opens change)
 
--- these are the credits after a frame that moves nothing else of the connection: nothing of that is shown
-abbrev pub IsLoneCredit : Frame → KeptConnection → Sides ℤ → Type 0
-IsLoneCredit frame old credit =
-    IsConnectionAfter frame false None old (record { state = record old.state { credit = credit } })
-
 -- a credit after a frame, where some is left before and after it, and no more than the largest
 pub record IsCountedCredit (d : Side) (frame : Frame) (before after : ℤ) : Type 0 where
   pub moved : after ≡ before +ℤ (pos (grant_to d 0 frame) -ℤ pos (content_by d frame))
@@ -45,6 +42,11 @@ pub record IsCreditAfter (d : Side) (frame : Frame) (before after : ℤ) : Type 
 pub record AreCreditsAfter (frame : Frame) (before after : Sides ℤ) : Type 0 where
   pub client : IsCreditAfter Client frame before.client after.client
   pub server : IsCreditAfter Server frame before.server after.server
+
+-- these are the credits after a frame: nothing of them and of its length is shown
+pub record HasCredits (frame : Frame) (old : KeptConnection) (credit : Sides ℤ) : Type 0 where
+  pub short : nat_lt (side_of frame.side old.state.limit) frame.length ≡ false
+  pub moved : AreCreditsAfter frame old.state.credit credit
 
 -- the frame moves no credit of side d
 pub record LeavesCredit (d : Side) (frame : Frame) : Type 0 where

@@ -2,6 +2,7 @@
 use Rattle.std.specs.Prelude.{◌≡◌, ℕ, ℤ, pos, Bool, true, false, ◌==◌, ◌||◌, if◌then◌else◌, List, Option, Some, None}
 use Rattle.std.specs.List.{AllByRecursion}
 use Rattle.audit_terms.specs.declared.sides.Side.{Side}
+use Rattle.audit_terms.specs.declared.sides.Side.TheVariants.{Client, Server}
 use Rattle.audit_terms.specs.declared.sides.Sides.{Sides}
 use Rattle.audit_terms.specs.declared.frames.Frame.{Frame}
 use Rattle.audit_terms.specs.declared.lives.StreamLife.{StreamLife}
@@ -73,6 +74,16 @@ stream_of standings = record {
   life = life_of standings;
   window = record { client = window_of standings.client; server = window_of standings.server };
 }
+
+-- how a side stands
+abbrev pub of_side : Side → Standings → ℕ
+of_side Client standings = standings.client
+of_side Server standings = standings.server
+
+-- a stream on which side d stands so, and the other one so
+abbrev pub sided : (d : Side) → (opened own heard : ℕ) → Standings
+sided Client opened own heard = record { opened = opened; client = own; server = heard }
+sided Server opened own heard = record { opened = opened; client = heard; server = own }
 
 -- a stream after a frame that it meets: nothing of that is shown
 pub record IsNext (stream : ℕ) (initial : Sides ℕ) (frame : Frame) (old new : Standings) : Type 0 where

@@ -1,6 +1,6 @@
 use Rattle.std.proofs.Common.{◌++◌, arith, length-append, length-drop, length-take-le, subst, take}
 use Rattle.std.proofs.lemmas.List.{take_rest}
-use Rattle.h2_frames.proofs.Cutters.{gathered}
+use Rattle.h2_frames.proofs.Cutters.{gathered, gathered_at_once}
 use Rattle.h2_frames.specs.code.Cutter.{HasGot}
 use Rattle.h2_frames.proofs.cutter.SideCutter.gather.Goals as goal
 
@@ -21,6 +21,13 @@ add_wanted-requires-2 c =
         length-take-le n more (omega (arith, got.count)),
       )),
     )
+
+pub returns-then-header-more : goal.returns-then-header-more
+returns-then-header-more c = λ tail is none.
+    let n = c.in_ok-header.header in
+    let more = c.args.more.now in
+    let got = c.in_ok-header.ensures tail is in
+    gathered_at_once tail more c.add_wanted.new.self n none (omega (arith, c.if-header-more.true)) got
 
 pub returns : goal.returns
 returns c = λ tail is none.

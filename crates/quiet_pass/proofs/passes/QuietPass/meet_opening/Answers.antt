@@ -5,4 +5,4 @@ use Rattle.quiet_pass.proofs.passes.QuietPass.meet_opening.Goals as goal
 pub returns-clause-quiet : goal.returns-clause-quiet
 returns-clause-quiet c =
     rest-stream c.requires.plain (rw c.if-not-branch.false at c.in_ok-open.ensures.quiet)
-    c.if-not-meet.ensures.quiet refl refl refl
+    (c.opened_by.ensures _ c.in-Some.is) refl refl refl
