@@ -12,3 +12,4 @@ pub mod Greeting
 pub mod Growths
 pub mod Connection
 pub mod ConnectionFrames
+pub mod Listed

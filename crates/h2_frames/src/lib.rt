@@ -30,7 +30,7 @@
 //!   takes a connection's segments one by one, with their payloads, and its `finish` says of both flows, as `assemble`
 //!   has them of whatever capture the payloads stand in, which kind of cut they have, and where they end
 //!   (`HasHandedFrames` of `specs/code/ConnectionFrames.antt`). By [`laws::ending_tells_the_cut`] that is the cut which
-//!   [`cut`] finds. The programs take this way.
+//!   [`cut`] finds. The programs take this way. [`FrameList`] is a visitor that keeps the frames, and makes them a cut.
 //! - A frame that is numbered within its side has a type of its own (`SideFrame`), and becomes a frame of the
 //!   connection where it gets its number there.
 //! - Frames are orderly, as calls on frames require: numbers rise, streams have 31 bits and lengths 24, times are below
@@ -56,6 +56,7 @@ mod connection_frames;
 mod cuts;
 mod cutter;
 mod cutting;
+mod frame_list;
 mod greeting;
 mod headers;
 pub mod laws;
@@ -71,4 +72,5 @@ pub use connection::{ConnectionCutter, Ending};
 pub use connection_frames::{ConnectionFrames, HandedFrames};
 pub use cuts::Cut;
 pub use cutting::cut;
+pub use frame_list::FrameList;
 pub use visitor::FrameVisitor;

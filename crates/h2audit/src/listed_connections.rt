@@ -1,7 +1,6 @@
 //! Connections of which all frames are kept, as they come.
 
-ghost use Rattle.std.specs.Prelude.{◌≡◌, [], ℕ, IfOk, List, OnOk};
-ghost use Rattle.h2_frames.specs.code.Connection.{IsEnding};
+ghost use Rattle.std.specs.Prelude.{ℕ, IfOk, List, OnOk};
 ghost use Rattle.packet_heads.specs.code.Order.{AreNumberedFrom};
 ghost use Rattle.packet_heads.specs.declared.packets.Packet.{Packet};
 ghost use Rattle.packet_heads.specs.declared.packets.Segment.{Segment as Opening};
@@ -9,36 +8,18 @@ ghost use Rattle.report_pages.specs.code.Reach.{HasGapAtEnd};
 ghost use Rattle.tcp_streams.specs.code.Opened.{AreVisited, IsVisited};
 ghost use Rattle.tcp_streams.specs.code.SentFlows.{HaveFlows};
 ghost use Rattle.tcp_streams.specs.code.Side.{Sent};
-ghost use Rattle.tcp_streams.specs.declared.flows.Flow.{Flow};
-ghost use Rattle.h2audit.specs.code.Listed.{AreListed, HasListed, IsHeldOfOpening, IsListedCut, IsListedOfSent};
+ghost use Rattle.h2audit.specs.code.Listed.{HasListed, IsHeldOfOpening, IsListedOfSent};
 ghost use Rattle.h2audit.specs.code.Met.{AreMadeOfOpenings, HasMetSegments};
 
 use crate::met_connections::MetConnection;
 use audit_report::SectionHeading;
-use audit_terms::{Frame, Sides};
-use h2_frames::{ConnectionFrames, Cut, Ending, FrameVisitor, HandedFrames};
+use audit_terms::Sides;
+use h2_frames::{ConnectionFrames, Cut, FrameList, HandedFrames};
 use packet_heads::Segment;
 use report_pages::Reach;
 use std::alloc::{AllocError, Global};
 use tcp_streams::ConnectionVisitor;
 use tcp_streams::laws::flows_are_those_sent;
-
-/// The frames of a connection so far, in capture order.
-#[derive(Drop)]
-pub(crate) struct FrameList {
-    frames: Vec<Frame>,
-}
-
-impl FrameVisitor for FrameList {
-    ghost use Rattle.h2audit.specs.code.Listed.{AreListed};
-
-    ghost after = { AreListed };
-
-    fn take(&mut self, _alloc: Global, frame: &Frame) -> Result<(), AllocError> {
-        self.frames.extend_from_slice(&[*frame])?;
-        Ok(())
-    }
-}
 
 /// A connection while its segments come, whose frames are kept.
 #[derive(Drop)]
@@ -69,12 +50,8 @@ impl ConnectionVisitor for ListedConnection {
     ghost after = { HasListed };
 
     fn begin(alloc: Global, opening: &Segment) -> Result<ListedConnection, AllocError> {
-        let none = FrameList {
-            frames: Vec::new(alloc),
-        };
-        Ok(ListedConnection {
-            frames: ConnectionFrames::begin(alloc, opening, none),
-        })
+        let frames = ConnectionFrames::begin(alloc, opening, FrameList::new(alloc));
+        Ok(ListedConnection { frames })
     }
 
     fn take(&mut self, alloc: Global, segment: &Segment, payload: &[u8]) -> Result<(), AllocError> {
@@ -92,24 +69,6 @@ impl ListedConnection {
             → OnOk result (HaveFlows opening sent) }
     {
         self.frames.finish(alloc)
-    }
-}
-
-impl FrameList {
-    /// The cut of two flows that end so, where these were their frames.
-    fn cut(self, ending: Ending) -> Cut
-        ensures { (client server : Flow) → IsEnding AreListed client server self ending
-            → IsListedCut client server result }
-    {
-        match ending {
-            Ending::Http2 { count: _, tails } => Cut::Http2 {
-                frames: self.frames,
-                tails,
-            },
-            Ending::NotHttp2 => Cut::NotHttp2,
-            Ending::NoPreface => Cut::NoPreface,
-            Ending::NoHandshake => Cut::NoHandshake,
-        }
     }
 }
 

@@ -15,6 +15,7 @@ use crate::quiet_frames::moves_little;
 use crate::said_frames::has_stop;
 use audit_terms::{Change, Finding, Frame};
 use std::alloc::{AllocError, Global};
+use std::slice;
 
 /// A connection between two of its frames, with what they show.
 #[derive(Drop)]
@@ -192,7 +193,7 @@ impl FoundPass {
             return Ok(());
         }
         self.found.append(&mut said)?;
-        self.shown_at.extend_from_slice(&[*frame])?;
+        self.shown_at.extend_from_slice(slice::from_ref(frame))?;
         Ok(())
     }
 }

@@ -1,14 +1,12 @@
 -- Connections of which all frames are kept as they come, and what is known of their flows then.
 use Rattle.std.specs.Prelude.{◌≡◌, ℕ, List}
 use Rattle.audit_report.specs.FlowLine.{extents_of}
-use Rattle.audit_terms.specs.declared.frames.Frame.{Frame}
 use Rattle.audit_terms.specs.declared.sides.Side.TheVariants.{Client, Server}
 use Rattle.audit_terms.specs.declared.sides.Sides.{Sides}
-use Rattle.h2_frames.specs.Cut.{IsCut}
 use Rattle.h2_frames.specs.code.ConnectionFrames.{HasHandedAll, HasTakenSent}
-use Rattle.h2_frames.specs.code.Orderly.{HasOrderlyFrames}
+use Rattle.h2_frames.specs.code.Listed.{AreListed, IsListedCut}
 use Rattle.h2_frames.specs.declared.connection_frames.HandedFrames.{HandedFrames}
-use Rattle.h2_frames.specs.declared.cuts.Cut.{Cut}
+use Rattle.h2_frames.specs.declared.frame_list.FrameList.{FrameList}
 use Rattle.packet_heads.specs.declared.packets.Packet.{Packet}
 use Rattle.packet_heads.specs.declared.packets.Segment.{Segment}
 use Rattle.report_pages.specs.code.Reach.{extents_in}
@@ -17,13 +15,8 @@ use Rattle.tcp_streams.specs.code.Side.{Sent}
 use Rattle.tcp_streams.specs.declared.flows.Flow.{Flow}
 use Rattle.tcp_streams.specs.declared.members.Connection.{Connection}
 use Rattle.h2audit.specs.Audited.{IsFlowOf}
-use Rattle.h2audit.specs.declared.listed_connections.FrameList.{FrameList}
 use Rattle.h2audit.specs.declared.listed_connections.HeldFlows.{HeldFlows}
 use Rattle.h2audit.specs.declared.listed_connections.ListedConnection.{ListedConnection}
-
--- these are the frames of the list
-abbrev pub AreListed : List Frame → FrameList → Type 0
-AreListed frames list = list.frames.items ≡ frames
 
 -- of a connection that a SYN opened these segments were taken, none of a record above `last`, and the frames listed
 abbrev pub HasListed : (opening : Segment) → List Sent → (last : ℕ) → ListedConnection → Type 0
@@ -32,11 +25,6 @@ HasListed opening sent last connection = HasTakenSent AreListed opening sent las
 -- what both flows of these segments hold, of whatever capture they were sent in
 abbrev pub IsListedOfSent : (opening : Segment) → List Sent → HandedFrames FrameList → Type 0
 IsListedOfSent opening sent handed = HasHandedAll AreListed opening sent handed
-
--- the cut of two flows, its frames in order
-pub record IsListedCut (client server : Flow) (cut : Cut) : Type 0 where
-  pub is : IsCut client server cut
-  pub orderly : HasOrderlyFrames cut
 
 -- how far two flows reach, and what they hold
 pub record HoldsFlows (client server : Flow) (held : HeldFlows) : Type 0 where

@@ -17,7 +17,7 @@ pub returns : goal.returns
 returns c = record {
   added = record {
     found = c.in_ok-append.ensures.items;
-    shown_at = c.in_ok-extend_from_slice.ensures.items
+    shown_at = (rw c.from_ref.ensures.value at c.in_ok-extend_from_slice.ensures.items)
         ∙ named-some c.args.frame.now c.args.said.items c.args.self.now.shown_at.items
         (λ e. absurd (omega (arith, e, c.args.said.ok.0, eqb-false _ _ (sym c.if-is_empty.ensures))));
     stopped = rw c.as_slice.ensures.value at c.has_stop-self.ensures;

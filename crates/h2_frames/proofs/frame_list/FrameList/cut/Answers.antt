@@ -2,7 +2,7 @@ use Rattle.std.proofs.Common.{List, subst, sym}
 use Rattle.audit_terms.specs.code.runs.Orderly.{IsOrderly}
 use Rattle.audit_terms.specs.declared.frames.Frame.{Frame}
 use Rattle.h2_frames.specs.Cut.{IsHttp2}
-use Rattle.h2audit.proofs.listed_connections.FrameList.cut.Goals as goal
+use Rattle.h2_frames.proofs.frame_list.FrameList.cut.Goals as goal
 
 pub returns-in-Http2 : goal.returns-in-Http2
 returns-in-Http2 c = λ client server is.
