@@ -44,7 +44,8 @@
 //!   lengths where its answer changes, padding, settings at the ends of their ranges.
 //! - The prover refuses: a value out of range left out, an order by first bytes, exchanged tails, one tail told for
 //!   both, a stage that takes each connection for one with a handshake, passes over segments without payload, takes the
-//!   server for the client or tells one end of both flows, a wrong preface that is waited for.
+//!   server for the client or tells one end of both flows, a wrong preface that is waited for, a list that leaves out
+//!   frames without payload.
 //! - Whole reports test that the stage succeeds where there is memory, on connections of each of the four kinds.
 //!   Nothing tests that of [`cut`], which no program calls.
 #![tactic(auto)]
