@@ -16,6 +16,8 @@ pub struct Spelled {
 
 /// The header and the payload of the frame that the bytes begin with, and the bytes after it, where they hold the whole
 /// of it.
+// In line, as what becomes of these parts is, so that a frame is put together where it is met: as calls they copied its
+// body four times, by loads that waited for smaller stores, a fifth of an audit of many frames.
 #[inline(always)]
 pub(crate) fn first_parts(bytes: &[u8]) -> Option<(Header, &[u8], &[u8])>
     ensures found { IfSome result (λ found. (start : List ℕ) × (bytes.now ≡ start ++ found.1.now ++ found.2.now)
