@@ -29,26 +29,23 @@ impl KeptConnection {
         }
     }
 
-    /// Meets a frame, which opens its stream or not and may bring a change, and returns false if that may show
+    /// Meets a frame, which opens no stream by HEADERS and may bring a change, and returns false if that may show
     /// something.
-    pub(crate) fn meet(&mut self, frame: &Frame, opens: bool, change: &Option<Change>) -> bool
-        ensures quiet { OnTrue result (IsConnectionAfter frame.now opens change.now self.old self.new) }
+    pub(crate) fn meet(&mut self, frame: &Frame, change: &Option<Change>) -> bool
+        ensures quiet { OnTrue result (IsConnectionAfter frame.now false change.now self.old self.new) }
         ensures left { OnFalse result (self.new ≡ self.old) }
     {
         let longest = new_limit(change, frame.side, self.state.limit.of(frame.side));
         if longest < frame.length.get() {
             return false;
         }
-        let (Some(opened), Some(promised), Some(credit)) = (
-            self.opened_after(frame, opens),
-            self.promised_after(frame),
-            self.credits_after(frame),
-        ) else {
+        let (Some(promised), Some(credit)) = (self.promised_after(frame), self.credits_after(frame))
+        else {
             return false;
         };
         self.state = ConnectionState {
             credit,
-            opened,
+            opened: self.state.opened,
             promised,
             push: new_push(change, self.state.push),
             limit: limit_after(change, &self.state.limit),
@@ -75,7 +72,7 @@ impl KeptConnection {
         requires credit { HasCredits frame.now self.now credit }
         ensures { ForSome result (IsConnectionAfter frame.now true Option.None self.now) }
     {
-        let opened = self.opened_after(frame, true)?;
+        let opened = self.opened_after(frame)?;
         Some(KeptConnection {
             state: ConnectionState {
                 credit,
@@ -114,11 +111,11 @@ impl KeptConnection {
         Some(credit)
     }
 
-    /// The greatest stream that the client opened, after a frame, if that is in order (5.1.1).
-    fn opened_after(&self, frame: &Frame, opens: bool) -> Option<u32>
-        ensures { ForSome result (IsOpenedAfter frame.now opens self.now.state.opened) }
+    /// The greatest stream that the client opened, after a frame that opens its stream, if that is in order (5.1.1).
+    fn opened_after(&self, frame: &Frame) -> Option<u32>
+        ensures { ForSome result (IsOpenedAfter frame.now true self.now.state.opened) }
     {
-        if !(opens && frame.body.is_headers()) {
+        if !frame.body.is_headers() {
             return Some(self.state.opened);
         }
         if frame.stream <= self.state.opened {

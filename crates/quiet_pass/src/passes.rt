@@ -136,7 +136,7 @@ impl QuietPass {
         ensures left { IfOk result (λ met. OnFalse met (self.new ≡ self.old)) }
     {
         let mut connection = self.connection;
-        if !connection.meet(frame, false, &None) {
+        if !connection.meet(frame, &None) {
             return Ok(false);
         }
         if !self.streams.promise(&self.initial, frame)? {

@@ -59,7 +59,7 @@ impl QuietPass {
         if !self.leaves_windows(change) {
             return false;
         }
-        self.connection.meet(frame, false, change)
+        self.connection.meet(frame, change)
     }
 
     /// What SETTINGS or an acknowledgement show, in order, where its settings have met it, which bring this change or
