@@ -1,6 +1,7 @@
 pub mod Belongings
 pub mod Both
 pub mod Contents
+pub mod Filling
 pub mod FlowLemmas
 pub mod Growth
 pub mod GrowthLaws

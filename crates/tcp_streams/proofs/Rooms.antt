@@ -1,5 +1,5 @@
 -- A flow is no longer than the payloads of its side: so both flows of a connection have room where all payloads have.
-use Rattle.tcp_streams.proofs.Words.{◌≡◌, ℕ, ◌<◌, ◌≤◌, List, [], ◌∷◌, ◌++◌, Option, None, Some, refl, sym, ◌∙◌, arith}
+use Rattle.tcp_streams.proofs.Words.{◌≡◌, ℕ, ◌<◌, ◌≤◌, List, [], ◌∷◌, ◌++◌, Option, None, Some, refl, ◌∙◌, arith}
 use Rattle.tcp_streams.proofs.Words.{◌+◌, ◌^◌, length, length-append, lt-ltb, map-append, ap, IfSome, IsSome}
 use Rattle.tcp_streams.proofs.Words.{false≢true, sum_by-cons}
 use Rattle.tcp_streams.proofs.Words.{Client, IsSame, is_endpoint, Segment, Server, Side, Source, Interval, at}
@@ -10,20 +10,22 @@ use Rattle.std.proofs.lemmas.List.Sums.{sum_by-append}
 use Rattle.tcp_streams.specs.{Flow.IsLongestRun, Sequence.brings, Sequence.distance, Sequence.earlier_of}
 use Rattle.packet_heads.specs.declared.packets.Endpoint.{Endpoint}
 use Rattle.tcp_streams.specs.code.Grown.{Growth, bytes_grown, of_side}
-use Rattle.tcp_streams.specs.code.Side.{IsSideStage, Sent, segments_among}
+use Rattle.tcp_streams.specs.code.{Side.IsSideStage, Side.Sent, Side.segments_among, SideFlow.IsRun}
 use Rattle.tcp_streams.specs.code.Taken.{ServerStands, sent_by}
 use Rattle.tcp_streams.specs.declared.{side_stage.SideStage.SideStage}
 use Rattle.tcp_streams.proofs.{IntervalLemmas.at-append, IntervalLemmas.covered-fit, Lists.by_Bool, Lists.by_lt}
 use Rattle.tcp_streams.proofs.PieceLemmas.{IsPieceOf, StandsIn, piece-is, piece-same}
 
 -- sources that bring the same where offsets count have one longest run
-pub run-same : (F G : ℕ → Option Source) → IsSame F G → (n : ℕ) → IsLongestRun F n → IsLongestRun G n
+pub run-same : (F G : ℕ → Option Source) → IsSame F G → (n : ℕ) → IsRun F n → IsRun G n
 run-same F G same n run =
     let within = run.within in record {
       within = within;
       covered = λ o lt. rw (same o (omega (arith, lt, within))) at (run.covered o lt);
-      longest = λ lt. sym (same n lt) ∙ run.longest lt;
     }
+
+pub longest-is : (F : ℕ → Option Source) (n : ℕ) → IsLongestRun F n → IsRun F n
+longest-is F n run = record { within = run.within; covered = run.covered }
 
 -- a segment whose payload stands alone
 abbrev alone : Segment → Segment
@@ -82,8 +84,8 @@ module _ (initial : ℕ) where
         fits later (omega (arith, small, sum)),
       )
 
-  -- a longest run is no longer than the payloads of its segments
-  pub run-fits : (segments : List Segment) (n : ℕ) → IsLongestRun (source initial segments) n
+  -- a run is no longer than the payloads of its segments
+  pub run-fits : (segments : List Segment) (n : ℕ) → IsRun (source initial segments) n
       → n ≤ payload_sum segments
   run-fits segments n run =
       by_lt (payload_sum segments) (2 ^ 31)
@@ -99,7 +101,12 @@ module _ (initial : ℕ) where
 pub stage-fits : (sent : List Sent) (grown : List Growth) (stage : SideStage) → IsSideStage sent grown stage
     → length (bytes_grown grown) ≤ payload_sum (segments_among sent)
 stage-fits sent grown stage h =
-    omega (arith, h.reaches, run-fits stage.initial_number (segments_among sent) stage.flow.end h.stands.run)
+    omega (
+      arith,
+      h.reaches,
+      run-fits stage.initial_number (segments_among sent) stage.flow.end
+          (longest-is _ _ h.stands.run),
+    )
 
 pub server-fits : (sent : List Sent) (grown : List Growth) (server : Option SideStage) → ServerStands sent grown server
     → length (bytes_grown grown) ≤ payload_sum (segments_among sent)

@@ -5,8 +5,8 @@ use Rattle.tcp_streams.proofs.Words.{source_in, Interval, none-some, false≢tru
 use Rattle.tcp_streams.proofs.Words.{take, get_or, get_or-map, length-map, map-append}
 use Rattle.tcp_streams.specs.{declared.side_flow.SideFlow.SideFlow}
 use Rattle.tcp_streams.specs.{declared.interval.Piece.Piece}
-use Rattle.tcp_streams.specs.code.SideFlow.{AllHold, AreKept, Follows, IsGrowth, IsSideFlow, intervals, kept_at}
-use Rattle.tcp_streams.specs.code.SideFlow.{run_end}
+use Rattle.tcp_streams.specs.code.SideFlow.{AllHold, AreKept, Follows, IsGrowth, IsRun, IsSideFlow, intervals, kept_at}
+use Rattle.tcp_streams.specs.code.SideFlow.{run_end, with_interval}
 use Rattle.tcp_streams.proofs.{Growth.or-left, IntervalLemmas.at-append, IntervalLemmas.at-in}
 use Rattle.tcp_streams.proofs.Lists.{by_lt, by_option}
 use Rattle.tcp_streams.proofs.RunLemmas.{Follows-push, run-beyond, run-covers, run_end-push}
@@ -49,16 +49,24 @@ growth-same F G low high run same within g = record {
   brings = λ o le lt. sym (same o (omega (arith, lt, within))) ∙ g.brings o le lt;
 }
 
--- what the interval that begins where the run ends adds to it
-pub one-handed-on : (F : ℕ → Option Source) (m n : ℕ → Option Interval) (low e : ℕ) (y : Interval)
-    (run : List Interval) → AreKept e F m → IsGrowth F low e run → m e ≡ Some y → n e ≡ None
-    → ((q : ℕ) → (q ≡ e → ⊥) → n q ≡ m q)
-    → AreKept y.upto F n × IsGrowth F low y.upto (run ++ y ∷ [])
-one-handed-on F m n low e y run h g first gone other =
+-- what is kept and begins where the run ends is taken off: the run grows by it
+pub one-taken-off : (F : ℕ → Option Source) (m n : ℕ → Option Interval) (e : ℕ) (y : Interval) → AreKept e F m
+    → m e ≡ Some y → n e ≡ None → ((q : ℕ) → (q ≡ e → ⊥) → n q ≡ m q)
+    → AreKept y.upto F n × IsGrowth F e y.upto (y ∷ [])
+one-taken-off F m n e y h first gone other =
     let is = h.placed e y first in (
       kept-less F m n e y h first gone other,
-      growth-push F low e run y g is.keyed is.interval (next-brought F m n e y h first gone other),
+      growth-push F e e [] y (growth-none F e) is.keyed is.interval (next-brought F m n e y h first gone other),
     )
+
+-- one growth after the other
+pub growth-then : (F : ℕ → Option Source) (low middle high : ℕ) (run : List Interval) (y : Interval)
+    → IsGrowth F low middle run → IsGrowth F middle high (y ∷ []) → IsGrowth F low high (run ++ y ∷ [])
+growth-then F low middle high run y g h =
+    let (begins, is, _) = h.follows in
+    subst (λ (n : ℕ). IsGrowth F low n (run ++ y ∷ [])) h.reaches
+    (growth-push F low middle run y g begins is
+    (λ o le lt. h.brings o le (omega (arith, lt, h.reaches)) ∙ at-in y [] o (omega (arith, begins, le)) lt))
 
 -- a growth covers what it reaches, and stays where offsets count
 pub covered-more : (F : ℕ → Option Source) (low high : ℕ) (run : List Interval) → IsGrowth F low high run
@@ -76,6 +84,17 @@ run-within low (x ∷ xs) f le = run-within x.upto xs f.2 f.1.counts
 pub growth-within : (F : ℕ → Option Source) (low high : ℕ) (run : List Interval) → IsGrowth F low high run
     → low ≤ end_of_offsets → high ≤ end_of_offsets
 growth-within F low high run g le = omega (arith, run-within low run g.follows le, g.reaches)
+
+-- so far the sources bring a byte at each offset
+pub run-so-far : {K : Type 0} (F G : ℕ → Option Source) (flow : SideFlow K) (high : ℕ) (run : List Interval)
+    → IsSideFlow F flow → ((o : ℕ) → IsSome (F o) → IsSome (G o)) → IsGrowth G flow.end high run → IsRun G high
+run-so-far F G flow high run h some g = record {
+  within = growth-within G flow.end high run g h.run.within;
+  covered = covered-more G flow.end high run g (λ o lt. some o (h.run.covered o lt));
+}
+
+pub with-interval : (F : ℕ → Option Source) (x : Interval) (o : ℕ) → IsSome (F o) → IsSome (with_interval F x o)
+with-interval F x o some = rw (or-left (F o) (at (x ∷ []) o) some) some
 
 -- nothing is kept
 abbrev pub IsNoneKept : (ℕ → Option Interval) → Type 0

@@ -2,26 +2,21 @@
 use Rattle.tcp_streams.proofs.Words.{◌≡◌, ℕ, ◌<◌, ◌≤◌, Bool, true, List, [], ◌∷◌, ◌++◌, Option, None, Some, refl}
 use Rattle.tcp_streams.proofs.Words.{sym, ◌∙◌, arith, ◌+◌, ◌-◌, ◌^◌, length, slice_get, ap, All}
 use Rattle.tcp_streams.proofs.Words.{IsSomeAnd}
-use Rattle.tcp_streams.proofs.Words.{append-nil, append_assoc, length-append, filter, ◌⊎◌, inr}
-use Rattle.tcp_streams.proofs.Words.{All-cons, All-head, All-nil, All-tail, All-push, ne_eqb, eq-eqb}
+use Rattle.tcp_streams.proofs.Words.{append-nil, append_assoc, length-append, filter, ◌⊎◌}
+use Rattle.tcp_streams.proofs.Words.{All-cons, All-head, All-nil, All-tail, ne_eqb, eq-eqb}
 use Rattle.tcp_streams.proofs.Words.{Side, Interval, Source, Arrival, IsSame, at, width}
-use Rattle.tcp_streams.proofs.Words.{Client, Server, drop, take, take-append-drop, get_or, map-append}
-use Rattle.tcp_streams.proofs.Words.{map}
+use Rattle.tcp_streams.proofs.Words.{Client, Server}
 use Rattle.audit_terms.specs.Side.{is_side}
-use Rattle.std.proofs.Common.{Vec, subst}
-use Rattle.std.specs.declared.alloc.Global.{Global}
 use Rattle.std.specs.{Prelude.◌==◌}
-use Rattle.std.proofs.lemmas.List.{Elements.filter-append, take_more}
+use Rattle.std.proofs.lemmas.List.{Elements.filter-append}
 use Rattle.tcp_streams.specs.code.Grown.{Growth, IsNextGrowth, arrivals_grown, bytes_grown, of_side}
 use Rattle.tcp_streams.specs.code.Grown.{with_arrival}
-use Rattle.tcp_streams.specs.code.Side.{AreGrowthsOf, AreNextGrowths}
-use Rattle.tcp_streams.specs.code.Side.{growth_of, holds_of}
-use Rattle.tcp_streams.specs.code.SideFlow.{Follows, IsSideFlow, intervals}
+use Rattle.tcp_streams.specs.code.{Content.AreBytesIn, Side.AreGrowthsOf}
+use Rattle.tcp_streams.specs.code.SideFlow.{Follows, IsSideFlow}
 use Rattle.tcp_streams.specs.code.SideFlow.{run_end}
-use Rattle.tcp_streams.specs.declared.{interval.Piece.Piece, side_flow.SideFlow.SideFlow}
+use Rattle.tcp_streams.specs.declared.{side_flow.SideFlow.SideFlow}
 use Rattle.tcp_streams.proofs.Lists.{by_Bool, by_lt, slice_get-left, slice_get-right, slice_get-slice_range}
 use Rattle.tcp_streams.proofs.IntervalLemmas.{at-in, at-past}
-use Rattle.tcp_streams.proofs.RunLemmas.{run_end-after}
 
 -- the bytes of growths, one list after the other
 pub bytes_grown-append : (gs hs : List Growth) → bytes_grown (gs ++ hs) ≡ bytes_grown gs ++ bytes_grown hs
@@ -142,63 +137,29 @@ module _ (side : Side) (rec nanos : ℕ) where
             (omega (arith, f.0, f.1.some, past, sized.0.3)),
       ) (brought-at capture x.upto xs more o f.2 sized.1 h.1 past b))
 
-  -- growths of a record that come next, if there is room for them
+  -- one more
+  pub brought-more : (of : Option (List ℕ)) (run : List Interval) (more : List Growth) (y : Interval) (g : Growth)
+      → AreGrowthsOf side rec nanos of run more → IsGrowthOf g → AreBytesIn of y g.bytes
+      → AreGrowthsOf side rec nanos of (run ++ y ∷ []) (more ++ g ∷ [])
+  brought-more of [] [] y g h is bytes = ((is.0, is.1, is.2, bytes), tt)
+  brought-more of [] (f ∷ more) y g h is bytes = absurd h
+  brought-more of (x ∷ xs) [] y g h is bytes = absurd h
+  brought-more of (x ∷ xs) (f ∷ more) y g h is bytes = (h.0, brought-more of xs more y g h.1 is bytes)
+
+  -- a growth of a record that comes next, if there is room for it
   abbrev pub IsBeforeIt : Growth → Type 0
   IsBeforeIt h = (h.rec < rec) ⊎ ((h.rec ≡ rec) × (h.nanos ≡ nanos) × (h.side ≡ side))
 
-  pub next-growths : (grown : List Growth) (low : ℕ) (run : List Interval) (more : List Growth) → 0 < rec
-      → nanos < 2 ^ 63 → All IsBeforeIt grown
-      → length (bytes_grown grown) + run_end low run < 2 ^ 31 + low → Follows low run
-      → AreGrowthsOf side rec nanos None run more
-      → AreNextGrowths grown more
-  next-growths grown low [] [] some timely before room f h = tt
-  next-growths grown low [] (g ∷ more) some timely before room f h = absurd h
-  next-growths grown low (x ∷ xs) [] some timely before room f h = absurd h
-  next-growths grown low (x ∷ xs) (g ∷ more) some timely before room f h =
-      let (side-is, rec-is, nanos-is, long) = h.0 in
-      let end = run_end-after x.upto xs f.2 in (
-        record {
-          some = omega (arith, long, f.1.some);
-          room = omega (arith, room, long, f.0, f.1.some, end);
-          numbered = omega (arith, rec-is, some);
-          timely = omega (arith, nanos-is, timely);
-          behind = rw (side-is, rec-is, nanos-is) before;
-        },
-        next-growths (grown ++ g ∷ []) x.upto xs more some timely
-            (All-push IsBeforeIt grown g before (inr (rec-is, nanos-is, side-is)))
-            (omega (
-              arith,
-              room,
-              length-grown grown (g ∷ []),
-              long,
-              f.0,
-              f.1.some,
-              ap length (append-nil g.bytes),
-            ))
-            f.2 h.1,
-      )
-
--- of growths that come next, one behind those before it
-pub next-at : (grown gs : List Growth) (g : Growth) (later : List Growth) → AreNextGrowths grown (gs ++ g ∷ later)
-    → IsNextGrowth (grown ++ gs) g
-next-at grown [] g later h = rw (append-nil grown) h.0
-next-at grown (f ∷ gs) g later h =
-    subst (λ l. IsNextGrowth l g) (append_assoc grown (f ∷ []) gs) (next-at (grown ++ f ∷ []) gs g later h.1)
-
-pub next-piece : (side : Side) (x : Interval) (run : List (Piece (Vec ℕ Global))) (k : ℕ)
-    (d : Piece (Vec ℕ Global)) (grown : List Growth) → k < length run
-    → AreNextGrowths grown (map (growth_of side x) run)
-    → IsNextGrowth (grown ++ map (growth_of side x) (take k run)) (growth_of side x (get_or run k d))
-next-piece side x run k d grown lt h =
-    let f = growth_of side x in
-    let split : map f run ≡ map f (take k run) ++ f (get_or run k d) ∷ map f (drop (k + 1) run) =
-    ap (map f) (sym (take-append-drop (k + 1) run))
-    ∙ map-append f (take (k + 1) run) (drop (k + 1) run)
-    ∙ ap (λ l. map f l ++ map f (drop (k + 1) run)) (take_more run k d lt)
-    ∙ ap (λ l. l ++ map f (drop (k + 1) run)) (map-append f (take k run) (get_or run k d ∷ []))
-    ∙ append_assoc (map f (take k run)) (f (get_or run k d) ∷ []) (map f (drop (k + 1) run)) in
-    next-at grown (map f (take k run)) (f (get_or run k d)) (map f (drop (k + 1) run))
-    (subst (λ l. AreNextGrowths grown l) split h)
+  pub comes-next : (grown : List Growth) (g : Growth) → 0 < rec → nanos < 2 ^ 63 → IsGrowthOf g
+      → All IsBeforeIt grown → 0 < length g.bytes → length (bytes_grown grown) + length g.bytes < 2 ^ 31
+      → IsNextGrowth grown g
+  comes-next grown g numbered timely is before some room = record {
+    some = some;
+    room = room;
+    numbered = omega (arith, is.1, numbered);
+    timely = omega (arith, is.2, timely);
+    behind = rw (is.0, is.1, is.2) before;
+  }
 
 -- what is so of all is so of those that pass a test
 pub filter-each : {X : Type 0} (p : X → Bool) (P : X → Type 0) (xs : List X) → All P xs → All P (filter p xs)
@@ -211,17 +172,6 @@ filter-each p P (x ∷ xs) h =
 
 pub of_side-each : (side : Side) (P : Growth → Type 0) (gs : List Growth) → All P gs → All P (of_side side gs)
 of_side-each side P gs h = filter-each (λ (g : Growth). is_side side g.side) P gs h
-
--- the pieces of a run, as growths
-pub run-brings : (of : Option (List ℕ)) (side : Side) (x : Interval) (run : List (Piece (Vec ℕ Global)))
-    → All (λ (p : Piece (Vec ℕ Global)). holds_of of p.interval p.content) run
-    → AreGrowthsOf side x.rec x.nanos of (intervals run) (map (growth_of side x) run)
-run-brings of side x [] h = tt
-run-brings of side x (p ∷ run) h =
-    let P = λ (p : Piece (Vec ℕ Global)). holds_of of p.interval p.content in (
-      (refl, refl, refl, All-head P p run h),
-      run-brings of side x run (All-tail P p run h),
-    )
 
 -- sources that bring the same where offsets count have the same flow
 module _ (F G : ℕ → Option Source) (same : IsSame F G) where

@@ -12,7 +12,7 @@ use Rattle.std.specs.declared.alloc.Global.{Global}
 use Rattle.tcp_streams.specs.{Flow.AreArrivals, Flow.AreBytes, Flow.IsLongestRun, Sequence.brings}
 use Rattle.tcp_streams.specs.code.Grown.{Growth, arrivals_grown, bytes_grown, of_side}
 use Rattle.tcp_streams.specs.code.{Content.AreBytesIn, SideFlow.IsGrowth, SideFlow.IsSideFlow, SideFlow.with_interval}
-use Rattle.tcp_streams.specs.code.SideFlow.{AllHold, Follows, run_end}
+use Rattle.tcp_streams.specs.code.SideFlow.{AllHold, Follows, IsRun, run_end}
 use Rattle.tcp_streams.specs.code.Side.{AreGrowthsOf, AreOfRecord, AreSentIn, ComesNext, HasGrown, IsNextPiece, IsSent}
 use Rattle.tcp_streams.specs.code.Side.{IsSideStage, Sent, holds_of, segments_among}
 use Rattle.tcp_streams.specs.declared.{side_flow.SideFlow.SideFlow, side_stage.SideStage.SideStage}
@@ -239,7 +239,7 @@ module _ (sent : List Sent) (s : Segment) (payload : List ℕ) (stage : SideStag
   -- so far as the flow will grow by it, there is room
   room-of-it : (side : Side) (grown : List Growth) → IsSideStage sent (of_side side grown) stage
       → ComesNext side sent grown s → (n : ℕ)
-      → IsLongestRun (with_interval (source stage.initial_number (segments_among sent)) x) n
+      → IsRun (with_interval (source stage.initial_number (segments_among sent)) x) n
       → length (bytes_grown grown) + n < 2 ^ 31 + stage.flow.end
   room-of-it side grown h next n run =
       let start = stage.initial_number in

@@ -1,12 +1,12 @@
 //! The flow of one side while its segments come one by one, as intervals of the capture.
 
 ghost use Rattle.std.specs.Prelude.{◌≡◌, ℕ, ◌<◌, ◌≤◌, List, [], ◌∷◌, All, None, Some, Option, IsSome, IfSome, IfNone};
-ghost use Rattle.std.specs.Prelude.{OnOk};
+ghost use Rattle.std.specs.Prelude.{OnOk, length};
 ghost use Rattle.tcp_streams.specs.Flow.{IsGap};
 ghost use Rattle.tcp_streams.specs.Sequence.{Source, end_of_offsets};
 ghost use Rattle.tcp_streams.specs.code.Interval.{IsInterval, part_of};
-ghost use Rattle.tcp_streams.specs.code.SideFlow.{AllHold, AreKept, IsGrowth, IsHeldAt, IsSideFlow, intervals, kept_at};
-ghost use Rattle.tcp_streams.specs.code.SideFlow.{with_interval};
+ghost use Rattle.tcp_streams.specs.code.SideFlow.{AllHold, AreKept, IsGrowth, IsHeldAt, IsRun, IsSideFlow, intervals};
+ghost use Rattle.tcp_streams.specs.code.SideFlow.{kept_at, with_interval};
 ghost use Rattle.tcp_streams.specs.declared.interval.Interval.{Interval};
 
 use crate::content::Content;
@@ -58,36 +58,6 @@ impl<K: Content> SideFlow<K> {
         Some(new)
     }
 
-    /// Takes what a segment covers, whose payload is given, and leaves in `run` by what the flow grew: parts of the
-    /// segment, and of those before it what is no longer behind a hole. Each interval takes steps in the logarithm of
-    /// how many are kept, and one that covers others as many steps more.
-    pub fn fill(
-        &mut self,
-        alloc: Global,
-        x: &Interval,
-        payload: &[u8],
-        run: &mut Vec<Piece<K>>,
-    ) -> Result<(), AllocError>
-        requires interval { IsInterval x.now }
-        requires given { K.gives None x.now payload.now }
-        ensures stands { OnOk result ((sources : ℕ → Option Source)
-            → IsSideFlow sources self.old → IsSideFlow (with_interval sources x.now) self.new) }
-        ensures growth { OnOk result ((sources : ℕ → Option Source)
-            → IsSideFlow sources self.old
-            → IsGrowth (with_interval sources x.now) self.old.end self.new.end (intervals run.new.items)) }
-        ensures holds { OnOk result ((of : Option (List ℕ))
-            → K.gives of x.now payload.now → AllHold (K.holds of) self.old.kept
-            → AllHold (K.holds of) self.new.kept
-            × All (λ p. K.holds of p.interval p.content) run.new.items) }
-    {
-        run.clear();
-        if x.upto <= self.end {
-            return Ok(());
-        }
-        self.keep(alloc, x, payload)?;
-        self.hand_on(run)
-    }
-
     /// The offset at which bytes are missing before later ones, if they are.
     pub fn gap(&self) -> Option<u64>
         ensures { (sources : ℕ → Option Source)
@@ -100,10 +70,10 @@ impl<K: Content> SideFlow<K> {
         }
     }
 
-    /// Keeps the parts of an interval past the end that nothing holds yet.
-    fn keep(&mut self, alloc: Global, x: &Interval, payload: &[u8]) -> Result<(), AllocError>
+    /// Keeps the parts of an interval past the end that nothing holds yet. It takes steps in the logarithm of how many
+    /// are kept, and one that covers others as many steps more.
+    pub fn keep(&mut self, alloc: Global, x: &Interval, payload: &[u8]) -> Result<(), AllocError>
         requires interval { IsInterval x.now }
-        requires ends { self.old.end < x.now.upto }
         requires given { K.gives None x.now payload.now }
         ensures kept { OnOk result ((sources : ℕ → Option Source)
             → IsSideFlow sources self.old
@@ -160,27 +130,25 @@ impl<K: Content> SideFlow<K> {
         }
     }
 
-    /// Hands on what begins where the run ends, and what begins where that ends, and so on.
-    fn hand_on(&mut self, run: &mut Vec<Piece<K>>) -> Result<(), AllocError>
-        requires { run.old.items ≡ [] }
-        ensures stands { OnOk result ((sources : ℕ → Option Source)
+    /// Takes off what begins where the flow ends, by which it grows. None if nothing does.
+    pub fn next(&mut self) -> Option<Piece<K>>
+        ensures growth { IfSome result (λ p. (sources : ℕ → Option Source)
             → AreKept self.old.end sources (kept_at self.old.kept)
-            → self.old.end ≤ end_of_offsets
-            → ((o : ℕ) → o < self.old.end → IsSome (sources o))
-            → IsSideFlow sources self.new) }
-        ensures growth { OnOk result ((sources : ℕ → Option Source)
+            → AreKept self.new.end sources (kept_at self.new.kept)
+            × IsGrowth sources self.old.end self.new.end (p.interval ∷ [])) }
+        ensures holds { IfSome result (λ p. (of : Option (List ℕ)) → AllHold (K.holds of) self.old.kept
+            → AllHold (K.holds of) self.new.kept × K.holds of p.interval p.content) }
+        ensures fewer { IfSome result (λ _. length self.new.kept.entries < length self.old.kept.entries) }
+        ensures stands { IfNone result ((sources : ℕ → Option Source)
             → AreKept self.old.end sources (kept_at self.old.kept)
-            → IsGrowth sources self.old.end self.new.end (intervals run.new.items)) }
-        ensures holds { OnOk result ((of : Option (List ℕ)) → AllHold (K.holds of) self.old.kept
-            → AllHold (K.holds of) self.new.kept
-            × All (λ p. K.holds of p.interval p.content) run.new.items) }
+            → IsRun sources self.old.end → IsSideFlow sources self.new) }
+        ensures still { IfNone result ((of : Option (List ℕ)) → AllHold (K.holds of) self.old.kept
+            → AllHold (K.holds of) self.new.kept) }
+        ensures end { IfNone result (self.new.end ≡ self.old.end) }
     {
-        while let Some(next) = self.kept.remove(&self.end) {
-            let upto = next.interval.upto;
-            run.push(next)?;
-            self.end = upto;
-        }
-        Ok(())
+        let next = self.kept.remove(&self.end)?;
+        self.end = next.interval.upto;
+        Some(next)
     }
 }
 
@@ -199,16 +167,18 @@ impl SideFlow<()> {
             → IsSideFlow sources self.old
             → IsGrowth (with_interval sources x.now) self.old.end self.new.end (intervals run.new.items)) }
     {
-        match self.extend(x) {
-            Some(new) => {
-                run.clear();
-                run.push(Piece {
-                    interval: new,
-                    content: (),
-                })?;
-                Ok(())
-            }
-            None => self.fill(alloc, x, &[], run),
+        run.clear();
+        if let Some(new) = self.extend(x) {
+            run.push(Piece {
+                interval: new,
+                content: (),
+            })?;
+            return Ok(());
         }
+        self.keep(alloc, x, &[])?;
+        while let Some(next) = self.next() {
+            run.push(next)?;
+        }
+        Ok(())
     }
 }

@@ -4,11 +4,10 @@ ghost use Rattle.std.specs.Prelude.{◌≡◌, ◌++◌, ◌∷◌, [], ℕ, Lis
 ghost use Rattle.tcp_streams.specs.code.Grown.{Growth, of_side};
 ghost use Rattle.tcp_streams.specs.Sequence.{Source};
 ghost use Rattle.tcp_streams.specs.code.Content.{AreBytesIn};
-ghost use Rattle.tcp_streams.specs.code.Side.{AreNextGrowths, ComesNext, HasGrown, IsNextPiece, IsSent, IsSideStage};
-ghost use Rattle.tcp_streams.specs.code.Side.{AreOfRecord, Sent, growth_of};
+ghost use Rattle.tcp_streams.specs.code.Side.{AreOfRecord, ComesNext, HasGrown, IsNextPiece, IsSent, IsSideStage, Sent};
 
 use crate::growth_visitor::GrowthVisitor;
-use crate::interval::{Interval, Piece};
+use crate::interval::Interval;
 use crate::pieces::piece_of;
 use crate::side_flow::SideFlow;
 use audit_terms::Side;
@@ -89,28 +88,31 @@ impl SideStage {
             let upto = (x.upto - x.from) as usize;
             return visitor.take(alloc, self.side, &payload[from..upto], x.rec, x.nanos);
         }
-        let mut run = Vec::new(alloc);
-        self.flow.fill(alloc, x, payload, &mut run)?;
-        hand_on(alloc, self.side, x, &run, visitor)
+        self.fill(alloc, x, payload, visitor)
     }
-}
 
-/// Hands on pieces that a record brings.
-fn hand_on<V: GrowthVisitor>(
-    alloc: Global,
-    side: Side,
-    x: &Interval,
-    run: &[Piece<Vec<u8>>],
-    visitor: &mut V,
-) -> Result<(), AllocError>
-    requires next { (grown : List Growth) × V.after grown visitor.old
-        × AreNextGrowths grown (map (growth_of side x.now) run.now) }
-    ensures { (grown : List Growth) → V.after grown visitor.old
-        → AreNextGrowths grown (map (growth_of side x.now) run.now)
-        → OnOk result (V.after (grown ++ map (growth_of side x.now) run.now) visitor.new) }
-{
-    for piece in run {
-        visitor.take(alloc, side, &piece.content, x.rec, x.nanos)?;
+    /// Keeps what a segment covers, and hands on what then is behind no hole.
+    fn fill<V: GrowthVisitor>(
+        &mut self,
+        alloc: Global,
+        x: &Interval,
+        payload: &[u8],
+        visitor: &mut V,
+    ) -> Result<(), AllocError>
+        requires given { AreBytesIn None x.now payload.now }
+        requires next { (sources : ℕ → Option Source) × (grown : List Growth) × V.after grown visitor.old
+            × IsNextPiece sources self.old.side grown self.old.flow x.now }
+        ensures taken { OnOk result ((sources : ℕ → Option Source) → (grown : List Growth) → V.after grown visitor.old
+            → IsNextPiece sources self.old.side grown self.old.flow x.now
+            → ((more : List Growth) × V.after (grown ++ more) visitor.new
+            × HasGrown sources self.old.side x.now payload.now self.old.flow self.new.flow more)) }
+        ensures side { OnOk result (self.new.side ≡ self.old.side) }
+        ensures initial { OnOk result (self.new.initial_number ≡ self.old.initial_number) }
+    {
+        self.flow.keep(alloc, x, payload)?;
+        while let Some(piece) = self.flow.next() {
+            visitor.take(alloc, self.side, &piece.content, x.rec, x.nanos)?;
+        }
+        Ok(())
     }
-    Ok(())
 }

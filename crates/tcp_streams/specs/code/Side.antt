@@ -1,22 +1,21 @@
 -- A side's flow that is handed on as its segments come: what it keeps, and what was handed on. No public clause cites
 -- these.
-use Rattle.std.specs.Prelude.{◌≡◌, ℕ, ◌+◌, ◌-◌, ◌<◌, ◌≤◌, ◌^◌, All, List, [], ◌∷◌, ◌++◌, length, map, slice_range}
+use Rattle.std.specs.Prelude.{◌≡◌, ℕ, ◌+◌, ◌-◌, ◌<◌, ◌≤◌, ◌^◌, All, List, [], ◌∷◌, length, map, slice_range}
 use Rattle.std.specs.Prelude.{Option, None, Some, Vec}
 use Rattle.std.specs.declared.alloc.Global.{Global}
 use Rattle.audit_terms.specs.declared.sides.Side.{Side}
 use Rattle.packet_heads.specs.declared.packets.Segment.{Segment}
 use Rattle.tcp_streams.specs.declared.interval.Interval.{Interval}
-use Rattle.tcp_streams.specs.declared.interval.Piece.{Piece}
 use Rattle.tcp_streams.specs.declared.side_flow.SideFlow.{SideFlow}
 use Rattle.tcp_streams.specs.declared.side_stage.SideStage.{SideStage}
 use Rattle.tcp_streams.specs.Arrivals.{Rises}
-use Rattle.tcp_streams.specs.Flow.{AreArrivals, AreBytes, IsLongestRun}
-use Rattle.tcp_streams.specs.code.Grown.{Growth, IsNextGrowth, arrivals_grown, bytes_grown, of_side}
+use Rattle.tcp_streams.specs.Flow.{AreArrivals, AreBytes}
+use Rattle.tcp_streams.specs.code.Grown.{Growth, arrivals_grown, bytes_grown, of_side}
 use Rattle.tcp_streams.specs.Sequence.{Source, payload_length, source}
 use Rattle.tcp_streams.specs.code.Content.{AreBytesIn}
 use Rattle.tcp_streams.specs.code.Interval.{IsInterval}
 use Rattle.tcp_streams.specs.code.Orderly.{payload_sum}
-use Rattle.tcp_streams.specs.code.SideFlow.{AllHold, IsGrowth, IsSideFlow, with_interval}
+use Rattle.tcp_streams.specs.code.SideFlow.{AllHold, IsGrowth, IsRun, IsSideFlow, with_interval}
 
 -- a segment, and its payload
 abbrev pub Sent : Type 0
@@ -54,11 +53,6 @@ AreGrowthsOf side rec nanos of (x ∷ xs) (g ∷ grown) =
     × AreGrowthsOf side rec nanos of xs grown
 AreGrowthsOf side rec nanos of _ _ = ⊥
 
--- growths that come next, one after the other
-abbrev pub AreNextGrowths : List Growth → List Growth → Type 0
-AreNextGrowths grown [] = Unit {0}
-AreNextGrowths grown (g ∷ more) = IsNextGrowth grown g × AreNextGrowths (grown ++ g ∷ []) more
-
 -- all growths are of this record
 abbrev pub AreOfRecord : Side → Segment → List Growth → Type 0
 AreOfRecord side s more = All (λ (g : Growth). (g.side ≡ side) × (g.rec ≡ s.rec) × (g.nanos ≡ s.nanos)) more
@@ -78,12 +72,8 @@ pub record IsSideStage (sent : List Sent) (grown : List Growth) (stage : SideSta
   pub arrivals_are : AreArrivals (source stage.initial_number (segments_among sent)) (arrivals_grown 0 grown)
       stage.flow.end
 
--- a piece of a run, as a growth with the record of an interval
-abbrev pub growth_of : Side → Interval → Piece (Vec ℕ Global) → Growth
-growth_of side x p = record { side = side; bytes = p.content.items; rec = x.rec; nanos = x.nanos }
-
 -- an interval of a record that comes next: the flow stands for these sources, and was handed on by the side's growths;
--- so far as it will grow, there is room for it beside the other side's
+-- so far as it may grow, there is room for it beside the other side's
 pub record IsNextPiece
     (sources : ℕ → Option Source) (side : Side) (grown : List Growth) (flow : SideFlow (Vec ℕ Global)) (x : Interval)
     : Type 0 where
@@ -92,7 +82,7 @@ pub record IsNextPiece
   pub sized : AllHold (holds_of None) flow.kept
   pub reaches : length (bytes_grown (of_side side grown)) ≡ flow.end
   pub before : All (λ (g : Growth). g.rec < x.rec) grown
-  pub room : (n : ℕ) → IsLongestRun (with_interval sources x) n → length (bytes_grown grown) + n < 2 ^ 31 + flow.end
+  pub room : (n : ℕ) → IsRun (with_interval sources x) n → length (bytes_grown grown) + n < 2 ^ 31 + flow.end
   pub numbered : 0 < x.rec
   pub timely : x.nanos < 2 ^ 63
 

@@ -46,6 +46,11 @@ pub record AreKept (low : ℕ) (sources : ℕ → Option Source) (kept : ℕ →
   pub brought : (o k : ℕ) (x : Interval) → IsHeldAt kept o k x → sources o ≡ Some (source_in x o)
   pub complete : (o : ℕ) → low ≤ o → o < end_of_offsets → IsSome (sources o) → IsHeld kept o
 
+-- the sources bring a byte at each offset below this one
+pub record IsRun (sources : ℕ → Option Source) (n : ℕ) : Type 0 where
+  pub within : n ≤ end_of_offsets
+  pub covered : (o : ℕ) → o < n → IsSome (sources o)
+
 -- the stage stands for these sources: their longest run has its length, and it keeps what they bring behind that
 pub record IsSideFlow {K : Type 0} (sources : ℕ → Option Source) (flow : SideFlow K) : Type 0 where
   pub run : IsLongestRun sources flow.end
