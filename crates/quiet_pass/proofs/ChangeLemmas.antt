@@ -4,7 +4,7 @@ use Rattle.std.specs.List.{IsDistinct, list_any}
 use Rattle.audit_terms.proofs.FindingLists.{each-append, each-weaker}
 use Rattle.audit_terms.proofs.OrderlyFrames.{drop-at}
 use Rattle.audit_terms.proofs.ShownFindings.{shown-append}
-use Rattle.stream_credit.proofs.QuietSteps.{change_alone, none-shown}
+use Rattle.stream_credit.proofs.QuietSteps.{change_alone}
 use Rattle.stream_credit.proofs.Words.{◌≡◌, ℕ, ◌<◌, ◌^◌, ◌==◌, ◌&&◌, Bool, true, false, List, [], ◌∷◌, ◌++◌, None}
 use Rattle.stream_credit.proofs.Words.{Option, refl, sym, ap, ◌∙◌, subst, arith, append-nil, append_assoc, map}
 use Rattle.stream_credit.proofs.Words.{cases_Bool, cases_eq, eq-eqb, eqb-true, ne_eqb, inl, inr, or_parts}

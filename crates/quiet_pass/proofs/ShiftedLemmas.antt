@@ -167,8 +167,8 @@ base-even kept s p = rw p refl
 pub begins-shifted : (shifted : Shifted) (old new : Streams) → old.shifted ≡ None → new.shifted ≡ Some shifted
     → AreLowered shifted.shift old.opened.items new.opened.items
     → AreLowered shifted.shift old.promised.items new.promised.items
-    → AreCovered shifted.frames_shown shifted.opened new.opened.items
-    → AreCovered shifted.frames_shown shifted.promised new.promised.items → (streams : ℕ → Stream)
+    → AreCovered shifted.frames_shown shifted.opened.value new.opened.items
+    → AreCovered shifted.frames_shown shifted.promised.value new.promised.items → (streams : ℕ → Stream)
     → AreStreams streams old
     → AreStreams streams new
 begins-shifted shifted old new none some opened promised one two streams all =
@@ -208,13 +208,13 @@ pub shifted-change : (frames_shown : Bool) (initial : Sides ℕ) (step : Step) �
     → IsShiftMoved initial (initial_after step.change initial) one.shift two.shift → (old new : Streams)
     → old.shifted ≡ Some one → new.shifted ≡ Some two → new.opened ≡ old.opened → new.promised ≡ old.promised
     → (before mid after : List Finding)
-    → (AreCovered frames_shown one.opened old.opened.items → shown frames_shown mid
+    → (AreCovered frames_shown one.opened.value old.opened.items → shown frames_shown mid
     ≡ shown frames_shown before ++ shown frames_shown (flat_map (shifted_said one.shift initial step) old.opened.items))
-    → (AreCovered frames_shown one.promised old.promised.items → shown frames_shown after
+    → (AreCovered frames_shown one.promised.value old.promised.items → shown frames_shown after
     ≡ shown frames_shown mid ++ shown frames_shown (flat_map (shifted_said one.shift initial step) old.promised.items))
-    → (AreCovered frames_shown one.opened old.opened.items → AreCovered frames_shown two.opened old.opened.items)
-    → (AreCovered frames_shown one.promised old.promised.items
-    → AreCovered frames_shown two.promised old.promised.items)
+    → (AreCovered frames_shown one.opened.value old.opened.items → AreCovered frames_shown two.opened.value old.opened.items)
+    → (AreCovered frames_shown one.promised.value old.promised.items
+    → AreCovered frames_shown two.promised.value old.promised.items)
     → IsChangeSaid frames_shown initial step (λ streams. AreStreams streams old)
     (λ streams. AreStreams streams new) before after
 shifted-change frames_shown initial step alone one two first second moved old new was now opened promised before mid

@@ -32,14 +32,14 @@ pub(crate) struct Streams {
     shifted: Option<Shifted>,
 }
 
-/// A shift of all rows, and what is known of groups of them.
+/// A shift of all rows, and what is known of groups of them: most connections have none, so that is elsewhere.
 #[derive(Drop)]
 struct Shifted {
     /// Are credits shown? It is known for this alone.
     frames_shown: bool,
     shift: Sides<u32>,
-    opened: RowGroups,
-    promised: RowGroups,
+    opened: Box<RowGroups>,
+    promised: Box<RowGroups>,
 }
 
 /// How a stream meets a frame. Streams change at quiet frames alone.
@@ -184,11 +184,11 @@ impl Streams {
             return Ok(false);
         };
         if stream % 2 == 1 {
-            let is_put = put_shifted(&mut self.opened, &mut shifted.opened, stream, &low)?;
+            let is_put = put_shifted(&mut self.opened, &mut *shifted.opened, stream, &low)?;
             self.shifted = Some(shifted);
             return Ok(is_put);
         }
-        let is_put = put_shifted(&mut self.promised, &mut shifted.promised, stream, &low)?;
+        let is_put = put_shifted(&mut self.promised, &mut *shifted.promised, stream, &low)?;
         self.shifted = Some(shifted);
         Ok(is_put)
     }
@@ -300,9 +300,9 @@ impl Streams {
             next,
         };
         let odd = self.opened.as_slice();
-        say_shifted(odd, &mut shifted.opened, found, &moving)?;
+        say_shifted(odd, &mut *shifted.opened, found, &moving)?;
         let even = self.promised.as_slice();
-        say_shifted(even, &mut shifted.promised, found, &moving)?;
+        say_shifted(even, &mut *shifted.promised, found, &moving)?;
         shifted.shift = next;
         self.shifted = Some(shifted);
         Ok(true)
@@ -340,14 +340,15 @@ impl Streams {
         let Some(promised) = lower_all(alloc, &mut even, initial)? else {
             return Ok(());
         };
-        self.opened = odd;
-        self.promised = even;
-        self.shifted = Some(Shifted {
+        let shifted = Shifted {
             frames_shown,
             shift: *initial,
-            opened,
-            promised,
-        });
+            opened: Box::new(alloc, opened)?,
+            promised: Box::new(alloc, promised)?,
+        };
+        self.opened = odd;
+        self.promised = even;
+        self.shifted = Some(shifted);
         Ok(())
     }
 }

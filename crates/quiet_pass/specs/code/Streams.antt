@@ -42,8 +42,8 @@ pub record IsShiftFor (frames_shown : Bool) (kept : Streams) (shift : Sides ℕ)
 
 -- what is known of groups of rows holds
 pub record AreGroups (shifted : Shifted) (kept : Streams) : Type 0 where
-  pub opened : AreCovered shifted.frames_shown shifted.opened kept.opened.items
-  pub promised : AreCovered shifted.frames_shown shifted.promised kept.promised.items
+  pub opened : AreCovered shifted.frames_shown shifted.opened.value kept.opened.items
+  pub promised : AreCovered shifted.frames_shown shifted.promised.value kept.promised.items
 
 -- the same, if rows hold credits less a shift
 abbrev pub AreGrouped : Streams → Type 0

@@ -18,7 +18,7 @@ returns-then-stream-eq1-clause-put c =
     record {
       frames_shown = shifted.frames_shown;
       shift = shifted.shift;
-      opened = c.put_shifted.new.groups;
+      opened = record shifted.opened { value = c.put_shifted.new.groups };
       promised = shifted.promised;
     } in
     let new : Streams = record { opened = c.put_shifted.new.rows; promised = old.promised; shifted = Some now } in
@@ -33,7 +33,7 @@ returns-then-stream-eq1-clause-put c =
       grouped = λ g.
           let groups = g shifted was in
           grouped-by new now refl
-          (record { opened = OnTrue_at e put.covered shifted.frames_shown groups.opened; promised = groups.promised });
+          (record { opened = OnTrue_at e put.covered shifted.frames_shown (rw c.deref_mut.ensures.value groups.opened); promised = groups.promised });
     })
 
 pub returns-then-stream-eq1-clause-left : goal.returns-then-stream-eq1-clause-left
@@ -48,10 +48,10 @@ returns-then-stream-eq1-clause-left c =
     (ap (λ (groups : RowGroups). record {
       frames_shown = shifted.frames_shown;
       shift = shifted.shift;
-      opened = groups;
+      opened = record shifted.opened { value = groups };
       promised = shifted.promised;
     })
-    (OnFalse_at e put.groups))))
+    (OnFalse_at e put.groups ∙ c.deref_mut.ensures.value))))
 
 pub returns-clause-put : goal.returns-clause-put
 returns-clause-put c =
@@ -66,7 +66,7 @@ returns-clause-put c =
       frames_shown = shifted.frames_shown;
       shift = shifted.shift;
       opened = shifted.opened;
-      promised = c.put_shifted-2.new.groups;
+      promised = record shifted.promised { value = c.put_shifted-2.new.groups };
     } in
     let new : Streams = record { opened = old.opened; promised = c.put_shifted-2.new.rows; shifted = Some now } in
     OnTrue_from c.in_ok-is_put-2.is_put _ (λ e. record {
@@ -80,7 +80,7 @@ returns-clause-put c =
       grouped = λ g.
           let groups = g shifted was in
           grouped-by new now refl
-          (record { opened = groups.opened; promised = OnTrue_at e put.covered shifted.frames_shown groups.promised });
+          (record { opened = groups.opened; promised = OnTrue_at e put.covered shifted.frames_shown (rw c.deref_mut-2.ensures.value groups.promised) });
     })
 
 pub returns-clause-left : goal.returns-clause-left
@@ -96,6 +96,6 @@ returns-clause-left c =
       frames_shown = shifted.frames_shown;
       shift = shifted.shift;
       opened = shifted.opened;
-      promised = groups;
+      promised = record shifted.promised { value = groups };
     })
-    (OnFalse_at e put.groups))))
+    (OnFalse_at e put.groups ∙ c.deref_mut-2.ensures.value))))

@@ -35,15 +35,15 @@ returns-clause-said c =
     let is : c.in-Some.shift ≡ shifted.shift = sym known.by ∙ rw same refl in
     let shows : shifted.frames_shown ≡ c.args.frames_shown = rw same at known.known in
     let moved = rw (is, c.initial_after-after.ensures) at (c.shift_after.ensures next c.in-Some-shift_after.is) in
-    let odd = rw (is, c.as_slice-odd.ensures.value) at c.in_ok-say_shifted.ensures.said in
-    let even = rw (is, c.as_slice-even.ensures.value) at c.in_ok-say_shifted-2.ensures.said in
+    let odd = rw (is, c.as_slice-odd.ensures.value, c.deref_mut.ensures.value) at c.in_ok-say_shifted.ensures.said in
+    let even = rw (is, c.as_slice-even.ensures.value, c.deref_mut-2.ensures.value) at c.in_ok-say_shifted-2.ensures.said in
     shifted-change c.args.frames_shown c.args.initial.now c.args.step.now c.requires.alone shifted
     (record {
       frames_shown = shifted.frames_shown;
       shift = next;
-      opened = c.say_shifted.new.groups;
-      promised = c.say_shifted-2.new.groups;
+      opened = record shifted.opened { value = c.say_shifted.new.groups };
+      promised = record shifted.promised { value = c.say_shifted-2.new.groups };
     }) shows shows moved old _ was refl refl refl c.args.found.now.items c.say_shifted.new.found.items
     c.say_shifted-2.new.found.items odd even
-    (rw c.as_slice-odd.ensures.value at c.in_ok-say_shifted.ensures.covered)
-    (rw c.as_slice-even.ensures.value at c.in_ok-say_shifted-2.ensures.covered)
+    (rw (c.as_slice-odd.ensures.value, c.deref_mut.ensures.value) at c.in_ok-say_shifted.ensures.covered)
+    (rw (c.as_slice-even.ensures.value, c.deref_mut-2.ensures.value) at c.in_ok-say_shifted-2.ensures.covered)

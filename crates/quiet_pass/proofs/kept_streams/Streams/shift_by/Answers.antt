@@ -11,11 +11,13 @@ returns c =
     let even = c.in_ok-promised.ensures in
     let was-odd = c.in_ok-odd.ensures ∙ c.as_slice.ensures.value in
     let was-even = c.in_ok-even.ensures ∙ c.as_slice-2.ensures.value in
-    let one = c.in-Some.opened in
-    let two = c.in-Some-2.promised in
+    let one = c.in_ok-new.field-0 in
+    let two = c.in_ok-new-2.field-0 in
     let shows = c.args.frames_shown in
     begins-shifted
     (record { frames_shown = shows; shift = c.args.initial.now; opened = one; promised = two }) old _ none
     refl
-    (rw was-odd at (odd.lowered one c.in-Some.is)) (rw was-even at (even.lowered two c.in-Some-2.is))
-    (odd.covered one c.in-Some.is shows) (even.covered two c.in-Some-2.is shows)
+    (rw was-odd at (odd.lowered c.in-Some.opened c.in-Some.is))
+    (rw was-even at (even.lowered c.in-Some-2.promised c.in-Some-2.is))
+    (rw c.in_ok-new.ensures.ok (odd.covered c.in-Some.opened c.in-Some.is shows))
+    (rw c.in_ok-new-2.ensures.ok (even.covered c.in-Some-2.promised c.in-Some-2.is shows))
