@@ -1,5 +1,5 @@
 -- A capture has a packet for each record, and opens no more connections than it has packets.
-use Rattle.std.proofs.Common.{◌≡◌, ◌∙◌, ℕ, ◌+◌, ◌≤◌, Bool, true, false, List, [], ◌∷◌, length, map, ap, arith}
+use Rattle.std.proofs.Common.{◌≡◌, ◌∙◌, ℕ, ◌+◌, ◌≤◌, Bool, true, false, List, [], ◌∷◌, length, ap, arith}
 use Rattle.std.proofs.Common.{length-append}
 use Rattle.std.proofs.lemmas.List.{length-map}
 use Rattle.std.specs.List.{enumerate_from}
@@ -8,13 +8,11 @@ use Rattle.packet_heads.specs.Decision.{packet_decision, packet_decisions}
 use Rattle.pcap_records.specs.declared.pcap_record.Record.{Record}
 use Rattle.packet_heads.specs.declared.packets.Packet.{Packet}
 use Rattle.packet_heads.specs.declared.packets.Segment.{Segment}
-use Rattle.tcp_streams.specs.declared.members.Connection.{Connection}
-use Rattle.tcp_streams.proofs.Belongings.{belonging-are, connections-shown, opened-are}
+use Rattle.tcp_streams.proofs.Belongings.{belonging-are, opened-are}
 use Rattle.tcp_streams.proofs.Numbered.{past_after-few}
 use Rattle.tcp_streams.specs.Membership as membership_words
-use Rattle.tcp_streams.specs.Membership.{AreConnections, belongings, is_opening, with_if}
-use Rattle.tcp_streams.specs.code.Past.{connection_of, connections_of, members, membership, opening_at, openings}
-use Rattle.tcp_streams.specs.code.Past.{opens, past_of}
+use Rattle.tcp_streams.specs.Membership.{belongings, is_opening, with_if}
+use Rattle.tcp_streams.specs.code.Past.{members, opening_at, openings, opens, past_of}
 
 with-one : (test : Bool) (before : List Segment) (s : Segment) → length (with_if test before s) ≤ length before + 1
 with-one true before s = let all = length-append before (s ∷ []) in omega arith
@@ -25,17 +23,6 @@ openings-few [] = omega arith
 openings-few (s ∷ earlier) =
     let one = with-one (opens s earlier) (openings earlier) s in
     let rest = openings-few earlier in
-    omega arith
-
-pub opened-few : (packets : List Packet) (opened : List Connection)
-    → AreConnections packets opened → length opened ≤ length packets
-opened-few packets opened are =
-    let same : length (map membership opened) ≡ length (connections_of (past_of packets)) = ap length
-    (connections-shown packets opened are) in
-    let mine = length-map opened membership in
-    let theirs = length-map (openings (past_of packets)) (connection_of (past_of packets)) in
-    let openings = openings-few (past_of packets) in
-    let past = past_after-few [] packets in
     omega arith
 
 members-few : (o : Segment) (past : List Segment) → length (members o past) ≤ length past

@@ -1,5 +1,5 @@
 use Rattle.{std.proofs.lemmas.Result.IfOk-weaker, stop_desk.proofs.Working.worked-together}
-use Rattle.stop_desk.proofs.Words.{ap, arith, rules, ℕ, ◌*◌, ◌+◌, ◌-◌, ◌≡◌, ◌≤◌}
+use Rattle.stop_desk.proofs.Words.{ap, arith, ℕ, ◌*◌, ◌+◌, ◌-◌, ◌≡◌, ◌≤◌}
 use Rattle.stop_desk.proofs.crews.+fn-fork-join+arg3+fork.Goals as goal
 
 -- one worker and the others are all workers
