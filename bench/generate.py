@@ -33,6 +33,7 @@ Shapes that a peer might make on purpose, each with as much of one thing as of t
   waiting      SETTINGS frames that nobody acknowledges
   crumbs       segments of one byte
   promised     streams that the server promises
+  loud         twenty connections like chatty by turns, each with a grant of 0 bytes for its stream
   colliding    strays of pairs whose two ends differ in the same bits
   live         open streams, then acknowledgements that move the window of each
   live_early   such streams, after a grant that brings the connection's window above the largest
@@ -87,10 +88,23 @@ def chatty(capture: Capture, size: int) -> None:
     one = Connection(capture, 40000)
     one.send(CLIENT, frame(1, 4, 1))
     while capture.size < size:
-        one.send(SERVER, 60 * frame(0, 0, 1, b"abcdefgh"))
-        one.send(CLIENT, 4 * (window_update(0, 120) + window_update(1, 120)))
-        one.send(CLIENT, 30 * frame(0, 0, 1, b"xyz"))
-        one.send(SERVER, 2 * (window_update(0, 45) + window_update(1, 45)))
+        chat(one)
+
+
+def loud(capture: Capture, size: int) -> None:
+    ones = [Connection(capture, 40000 + number) for number in range(20)]
+    for one in ones:
+        one.send(CLIENT, frame(1, 4, 1) + window_update(1, 0))
+    while capture.size < size:
+        for one in ones:
+            chat(one)
+
+
+def chat(one: Connection) -> None:
+    one.send(SERVER, 60 * frame(0, 0, 1, b"abcdefgh"))
+    one.send(CLIENT, 4 * (window_update(0, 120) + window_update(1, 120)))
+    one.send(CLIENT, 30 * frame(0, 0, 1, b"xyz"))
+    one.send(SERVER, 2 * (window_update(0, 45) + window_update(1, 45)))
 
 
 def calls(capture: Capture, size: int) -> None:
@@ -263,6 +277,7 @@ HOSTILE = (
     waiting,
     crumbs,
     promised,
+    loud,
 )
 QUADRATIC = (live, live_early)
 SHAPES: dict[str, Shape] = {each.__name__: each for each in (*USUAL, *TALKS, *HOSTILE, *QUADRATIC)}
