@@ -57,14 +57,9 @@ STACK, LEFT = 512 << 10, 64 << 10
 # with the square of the size (bench/README.md): of them a fourth is taken, not four times the size.
 MOST_GROWTH = 4.6
 SQUARE, MOST_OF_SQUARE = {"one": ("live --frames",), "several": ("live", "live --frames")}, 18.4
-# Here it grew to 5.29, 5.38 and 5.42 times: what came backwards is kept in a tree, whose bytes lie in lists that
-# double; and of what overlaps so little work is left that the steps of its tree show. Sixteen times the size takes 11
-# and 18 times the time; from 10 to 42 MB of backward order memory grows by 4.1 times.
-STEEPER = {
-    ("backwards", "memory of one worker"): 5.4,
-    ("overlapping", "instructions"): 5.6,
-    ("overlapping", "instructions of several"): 5.6,
-}
+# Here it grew to 5.38 and 5.42 times: of what overlaps so little work is left that the steps of its tree show. Sixteen
+# times the size takes 18 times the time.
+STEEPER = {("overlapping", "instructions"): 5.6, ("overlapping", "instructions of several"): 5.6}
 # What several workers may take of any capture, since they fill pages.
 FIXED_MEMORY = 6 << 20
 # Which figures of costs.tsv are looked at together, as they grow: those of one worker, and those of several.
