@@ -32,7 +32,7 @@ pub(crate) struct Streams {
     shifted: Option<Shifted>,
 }
 
-/// A shift of all rows, and what is known of groups of them: most connections have none, so that is elsewhere.
+/// A shift of all rows, and what is known of groups of them, in boxes: most connections have no shift.
 #[derive(Drop)]
 struct Shifted {
     /// Are credits shown? It is known for this alone.
