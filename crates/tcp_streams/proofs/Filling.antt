@@ -4,7 +4,8 @@ use Rattle.tcp_streams.proofs.Words.{◌<◌, length, All-weaker, inl, inr, Inte
 use Rattle.std.proofs.{Common.Vec, lemmas.List.Elements.All-append}
 use Rattle.std.specs.declared.alloc.Global.{Global}
 use Rattle.tcp_streams.specs.code.Grown.{Growth, IsNextGrowth}
-use Rattle.tcp_streams.specs.code.{Content.AreBytesIn, Side.AreGrowthsOf, Side.HasGrown, Side.IsNextPiece, Side.holds_of}
+use Rattle.tcp_streams.specs.code.{Content.AreBytesIn}
+use Rattle.tcp_streams.specs.code.Side.{AreGrowthsOf, HasGrown, IsNextPiece, holds_of}
 use Rattle.tcp_streams.specs.code.SideFlow.{AllHold, AreKept, IsGrowth, IsRun, IsSideFlow, kept_at, with_interval}
 use Rattle.tcp_streams.specs.declared.{interval.Piece.Piece, side_flow.SideFlow.SideFlow}
 use Rattle.tcp_streams.proofs.SideFlowSteps.{growth-none, growth-then, run-so-far, with-interval}

@@ -88,27 +88,6 @@ impl SideStage {
             let upto = (x.upto - x.from) as usize;
             return visitor.take(alloc, self.side, &payload[from..upto], x.rec, x.nanos);
         }
-        self.fill(alloc, x, payload, visitor)
-    }
-
-    /// Keeps what a segment covers, and hands on what then is behind no hole.
-    fn fill<V: GrowthVisitor>(
-        &mut self,
-        alloc: Global,
-        x: &Interval,
-        payload: &[u8],
-        visitor: &mut V,
-    ) -> Result<(), AllocError>
-        requires given { AreBytesIn None x.now payload.now }
-        requires next { (sources : ℕ → Option Source) × (grown : List Growth) × V.after grown visitor.old
-            × IsNextPiece sources self.old.side grown self.old.flow x.now }
-        ensures taken { OnOk result ((sources : ℕ → Option Source) → (grown : List Growth) → V.after grown visitor.old
-            → IsNextPiece sources self.old.side grown self.old.flow x.now
-            → ((more : List Growth) × V.after (grown ++ more) visitor.new
-            × HasGrown sources self.old.side x.now payload.now self.old.flow self.new.flow more)) }
-        ensures side { OnOk result (self.new.side ≡ self.old.side) }
-        ensures initial { OnOk result (self.new.initial_number ≡ self.old.initial_number) }
-    {
         self.flow.keep(alloc, x, payload)?;
         while let Some(piece) = self.flow.next() {
             visitor.take(alloc, self.side, &piece.content, x.rec, x.nanos)?;

@@ -1,9 +1,11 @@
-use Rattle.std.proofs.Common.{subst}
-use Rattle.std.specs.Prelude.{OnOk, slice_range}
-use Rattle.tcp_streams.proofs.Words.{◌-◌, ◌++◌, ◌∷◌, [], List, ℕ, Option, None, Source, arith, refl, sym}
+use Rattle.std.{proofs.Common.subst, specs.Prelude.slice_range}
+use Rattle.tcp_streams.proofs.Words.{◌-◌, ◌++◌, ◌∷◌, [], List, ℕ, Option, None, append-nil, append_assoc, arith}
+use Rattle.tcp_streams.proofs.Words.{refl, sym}
 use Rattle.tcp_streams.specs.code.Grown.{Growth, IsNextGrowth}
-use Rattle.tcp_streams.specs.code.{Content.AreBytesIn, Side.HasGrown, Side.IsNextPiece}
-use Rattle.tcp_streams.proofs.{Contents.part-bytes, Filling.Flow, Filling.comes-by, Rooms.longest-is}
+use Rattle.tcp_streams.specs.code.{Content.AreBytesIn, SideFlow.IsSideFlow}
+use Rattle.tcp_streams.proofs.{Contents.part-bytes, Filling.comes-by, Rooms.longest-is}
+use Rattle.tcp_streams.proofs.Filling.{Flow, IsGrowing, growing-first, growing-last, growing-more, growing-next}
+use Rattle.tcp_streams.proofs.Filling.{growth_of}
 use Rattle.tcp_streams.proofs.SideFlowSteps.{on-ok, on-ok-each}
 use Rattle.tcp_streams.proofs.side_stage.SideStage.take_piece.Goals as goal
 
@@ -58,25 +60,67 @@ returns-in-Some-clause-taken g c =
       },
     ))
 
-pub fill-requires : goal.fill-requires
-fill-requires g c =
-    let same = c.in_default.ensures.none in
-    let (sources, grown, after, next) = c.requires.next in record {
-      given = c.requires.given;
-      next = (
-        sources,
-        grown,
-        after,
-        subst (λ (flow : Flow). IsNextPiece sources c.args.self.now.side grown flow c.args.x.now) (sym same) next,
+pub loop-piece-init : goal.loop-piece-init
+loop-piece-init g c = record {
+  grows = λ sources grown visited next.
+      let same = c.in_default.ensures.none in
+      let kept = c.in_ok-keep.ensures in
+      let stands = subst (λ (flow : Flow). IsSideFlow sources flow) (sym same) next.stands in (
+        [],
+        rw append-nil visited,
+        subst (λ (flow : Flow). IsGrowing sources c.args.self.now.side c.args.x.now c.args.payload.now flow
+            c.keep.new.self []) same
+            (growing-first sources c.args.self.now.side c.args.x.now c.args.payload.now c.extend.new.self
+            c.keep.new.self kept.end (kept.kept sources stands) kept.holds),
       );
-    }
+  side = refl;
+  initial = refl;
+}
+
+pub take-requires-in-Some-next : goal.take-requires-in-Some-next
+take-requires-in-Some-next g c =
+    let old = c.args.self.now in
+    let x = c.args.x.now in
+    let payload = c.args.payload.now in
+    let (sources, grown, after, next) = c.requires.next in
+    let (more, visited, h) = c.loop-piece.invariant.grows sources grown after next in (
+      grown ++ more,
+      visited,
+      rw (c.deref.ensures.value, c.loop-piece.invariant.side)
+          (growing-next sources old.side x payload old.flow c.loop-piece.self.flow c.next.new.self more
+          c.in-Some-next.piece c.in-Some-next.ensures.growth c.in-Some-next.ensures.holds h grown
+          c.requires.given next),
+    )
+
+pub loop-piece-preserved : goal.loop-piece-preserved
+loop-piece-preserved g c = record {
+  grows = λ sources grown visited next.
+      let old = c.args.self.now in
+      let x = c.args.x.now in
+      let payload = c.args.payload.now in
+      let (more, visited, h) = c.loop-piece.invariant.grows sources grown visited next in
+      let one = growth_of old.side x c.in-Some-next.piece in
+      let comes = growing-next sources old.side x payload old.flow c.loop-piece.self.flow c.next.new.self more
+      c.in-Some-next.piece c.in-Some-next.ensures.growth c.in-Some-next.ensures.holds h grown c.requires.given next in
+      let taken = c.in_ok-take.ensures (grown ++ more) visited
+      (rw (c.deref.ensures.value, c.loop-piece.invariant.side) comes) in (
+        more ++ one ∷ [],
+        rw (sym (append_assoc grown more (one ∷ [])))
+            (rw (c.deref.ensures.value, c.loop-piece.invariant.side) at taken),
+        growing-more sources old.side x payload old.flow c.loop-piece.self.flow c.next.new.self more
+            c.in-Some-next.piece c.in-Some-next.ensures.growth c.in-Some-next.ensures.holds h,
+      );
+  side = c.loop-piece.invariant.side;
+  initial = c.loop-piece.invariant.initial;
+}
 
 pub returns-clause-taken : goal.returns-clause-taken
-returns-clause-taken g c =
-    let after = g.V.GrowthVisitor.after in
-    let self = c.args.self.now in
-    subst (λ (flow : Flow). OnOk c.fill.result ((sources : ℕ → Option Source) → (grown : List Growth)
-    → after grown c.args.visitor.now → IsNextPiece sources self.side grown flow c.args.x.now
-    → ((more : List Growth) × after (grown ++ more) c.fill.new.visitor
-    × HasGrown sources self.side c.args.x.now c.args.payload.now flow c.fill.new.self.flow more)))
-    c.in_default.ensures.none c.fill.ensures.taken
+returns-clause-taken g c = λ sources grown visited next.
+    let old = c.args.self.now in
+    let none = c.in_default-next.ensures in
+    let (more, visited, h) = c.loop-piece.invariant.grows sources grown visited next in (
+      more,
+      visited,
+      growing-last sources old.side c.args.x.now c.args.payload.now old.flow c.loop-piece.self.flow c.next.new.self
+          more next.stands none.end none.stands none.still h,
+    )

@@ -1,7 +1,7 @@
 use Rattle.tcp_streams.proofs.Words.{◌≡◌, ℕ, List, Option, Source, length, ◌++◌}
 use Rattle.tcp_streams.specs.{code.Grown.Growth, code.Side.IsNextPiece}
 use Rattle.tcp_streams.proofs.{Filling.IsGrowing}
-use Rattle.tcp_streams.proofs.side_stage.SideStage.fill.Given as goal
+use Rattle.tcp_streams.proofs.side_stage.SideStage.take_piece.Given as goal
 
 -- the pieces so far were handed on
 abbrev pub invariant-loop-piece : goal.invariant-loop-piece
