@@ -212,7 +212,8 @@ pub shifted-change : (frames_shown : Bool) (initial : Sides ℕ) (step : Step) �
     ≡ shown frames_shown before ++ shown frames_shown (flat_map (shifted_said one.shift initial step) old.opened.items))
     → (AreCovered frames_shown one.promised.value old.promised.items → shown frames_shown after
     ≡ shown frames_shown mid ++ shown frames_shown (flat_map (shifted_said one.shift initial step) old.promised.items))
-    → (AreCovered frames_shown one.opened.value old.opened.items → AreCovered frames_shown two.opened.value old.opened.items)
+    → (AreCovered frames_shown one.opened.value old.opened.items
+    → AreCovered frames_shown two.opened.value old.opened.items)
     → (AreCovered frames_shown one.promised.value old.promised.items
     → AreCovered frames_shown two.promised.value old.promised.items)
     → IsChangeSaid frames_shown initial step (λ streams. AreStreams streams old)

@@ -33,7 +33,10 @@ returns-then-stream-eq1-clause-put c =
       grouped = λ g.
           let groups = g shifted was in
           grouped-by new now refl
-          (record { opened = OnTrue_at e put.covered shifted.frames_shown (rw c.deref_mut.ensures.value groups.opened); promised = groups.promised });
+          (record {
+            opened = OnTrue_at e put.covered shifted.frames_shown (rw c.deref_mut.ensures.value groups.opened);
+            promised = groups.promised;
+          });
     })
 
 pub returns-then-stream-eq1-clause-left : goal.returns-then-stream-eq1-clause-left
@@ -80,7 +83,11 @@ returns-clause-put c =
       grouped = λ g.
           let groups = g shifted was in
           grouped-by new now refl
-          (record { opened = groups.opened; promised = OnTrue_at e put.covered shifted.frames_shown (rw c.deref_mut-2.ensures.value groups.promised) });
+          (record {
+            opened = groups.opened;
+            promised = OnTrue_at e put.covered shifted.frames_shown
+                (rw c.deref_mut-2.ensures.value groups.promised);
+          });
     })
 
 pub returns-clause-left : goal.returns-clause-left

@@ -36,7 +36,8 @@ returns-clause-said c =
     let shows : shifted.frames_shown ≡ c.args.frames_shown = rw same at known.known in
     let moved = rw (is, c.initial_after-after.ensures) at (c.shift_after.ensures next c.in-Some-shift_after.is) in
     let odd = rw (is, c.as_slice-odd.ensures.value, c.deref_mut.ensures.value) at c.in_ok-say_shifted.ensures.said in
-    let even = rw (is, c.as_slice-even.ensures.value, c.deref_mut-2.ensures.value) at c.in_ok-say_shifted-2.ensures.said in
+    let even = rw (is, c.as_slice-even.ensures.value, c.deref_mut-2.ensures.value) at
+    c.in_ok-say_shifted-2.ensures.said in
     shifted-change c.args.frames_shown c.args.initial.now c.args.step.now c.requires.alone shifted
     (record {
       frames_shown = shifted.frames_shown;
