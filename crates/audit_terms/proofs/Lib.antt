@@ -1,6 +1,7 @@
 pub mod OrderedLists
 pub mod FindingOrder
 pub mod UptoStop
+pub mod TimedStop
 pub mod Bounds
 pub mod Watching
 pub mod FindingLists

@@ -14,6 +14,7 @@ pub mod InForce
 pub mod Connection
 pub mod Stream
 pub mod Pass
+pub mod Timed
 pub mod laws
 pub mod code
 pub mod examples

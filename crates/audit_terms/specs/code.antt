@@ -10,4 +10,5 @@ pub mod Watch
 pub mod Widths
 pub mod Settings
 pub mod Places
+pub mod TimedFindings
 pub mod runs

@@ -22,6 +22,8 @@
 //! - [`Place`], [`Kind`] and [`Finding`] say where a finding stands, what it says and whether it stops the audit;
 //!   [`put_in_order`], [`cut_at_stop`], [`keep_up_to`] and [`keep_shown`] order findings, end them and drop credits;
 //!   [`first_stop_place`] says where they stop, and [`lesser_place`] which of two places comes first.
+//! - [`TimedFinding`] is a finding with the record and the time of its frame; [`cut_timed_at_stop`] ends a list of
+//!   them.
 //! - [`Look`] and [`Watch`]: a run asks where its connection stops, and hands each look what the steps before it show.
 //!   `specs/code/runs/Look.antt` says when a look is due, and so does docs/ARCHITECTURE.md ("How the work is divided").
 //! - [`laws`]: places stand in the order of frame number, rank and stream, and none is all ones.
@@ -29,7 +31,8 @@
 //!   and value, so it is total, and sorting needs no condition.
 //! - Refused by the prover: a cut by the frame, an order with the server first, an overflowing grant that is added,
 //!   padding that does not count, a place with four bits for the rank, a quiet credit that is used up, another row than
-//!   the stream's. The calls above test that these succeed where there is memory.
+//!   the stream's, a frame's number in the place of its record. The calls above test that these succeed where there is
+//!   memory.
 #![tactic(auto)]
 
 mod connection_state;
@@ -51,6 +54,7 @@ pub mod standings;
 mod stops;
 mod stream_rows;
 mod stream_state;
+mod timed_findings;
 mod widths;
 mod windows;
 
@@ -70,5 +74,6 @@ pub use sides::{Side, Sides};
 pub use stops::{first_stop_place, lesser_place};
 pub use stream_rows::{OfStream, row_of};
 pub use stream_state::Stream;
+pub use timed_findings::{TimedFinding, cut_timed_at_stop};
 pub use widths::{Length, Word};
 pub use windows::{FIRST_WINDOW, LARGEST_WINDOW};
