@@ -31,7 +31,7 @@ ENTRIES = {
     "streams_said": "audit_terms.Pass.streams_said",
     "item_of": "audit_terms.Pass.item_of",
     "connection_said": "audit_terms.Connection.connection_said",
-    "finding_line": "audit_report.FindingLine.finding_line",
+    "shown_line": "audit_report.FindingLine.shown_line",
     "format_of": "pcap_records.FileHeader.format_of",
     "number_of": "pcap_records.FileHeader.number_of",
     "link_of": "pcap_records.FileHeader.link_of",
@@ -137,7 +137,7 @@ class Reader:
         parts = {"full": self.ask("full", frames), "pass": self.ask("pass", frames), **shown}
         text = b""
         for name, found in parts.items():
-            text += f"{name}\n".encode() + b"".join(bytes(self.ask("finding_line", frames, one)) for one in found)
+            text += f"{name}\n".encode() + b"".join(bytes(self.ask("shown_line", True, frames, one)) for one in found)
         return text
 
 

@@ -1,14 +1,15 @@
 -- A frame is found by its number, since numbers rise.
 use Rattle.std.proofs.Common.{◌≡◌, ◌≢◌, ℕ, zero, suc, ◌+◌, ◌<◌, false, List, [], ◌∷◌, length, get_or, refl}
-use Rattle.std.proofs.Common.{◌^◌, arith, Some, None, nat_eq, eq-eqb, subst, sym}
+use Rattle.std.proofs.Common.{◌^◌, arith, Bool, true, Some, None, if◌then◌else◌, nat_eq, eq-eqb, subst, sym}
+use Rattle.std.proofs.Common.{option_map, unwrap_or}
 use Rattle.std.specs.List.Sorted.{IsNonDecreasingBy, IsPartitionPoint}
 use Rattle.std.{proofs.lemmas.Grind.common_steps, specs.Ordering.nat_cmp, specs.Ordering.ordering_index}
 use Rattle.std.specs.declared.cmp.Ordering.TheVariants.{Less, Equal, Greater}
 use Rattle.audit_terms.specs.{declared.frames.Frame.Frame, code.runs.Orderly.IsOrderly}
 use Rattle.audit_terms.specs.code.runs.Orderly.{IsOrderlyFrom}
 use Rattle.audit_terms.proofs.{FindingOrder.nat_level, KeySearch.key_missed}
-use Rattle.audit_terms.proofs.OrderlyFrames.{in_range_at, number_at_least, numbers_rise}
-use Rattle.audit_report.specs.FrameLookup.{frame_numbered}
+use Rattle.audit_terms.proofs.OrderlyFrames.{number_at_least, numbers_rise}
+use Rattle.audit_terms.specs.Timed.{frame_numbered, nanos_at}
 
 -- the frame at an index is the one of its number
 pub frame_numbered_at : (low : ℕ) (frames : List Frame) → IsOrderlyFrom low frames → (i : ℕ) (d : Frame)
@@ -26,11 +27,14 @@ frame_found frames n i f orderly within here same =
     (frame_numbered_at 0 frames orderly i f within) in
     sym (subst (λ (k : ℕ). frame_numbered frames k ≡ Some f) same at)
 
--- and is captured in time
-pub frame_timely : (frames : List Frame) (i : ℕ) (f : Frame) → IsOrderly frames → i < length frames
-    → f ≡ get_or frames i f → f.nanos < 2 ^ 63
-frame_timely frames i f orderly within here =
-    subst (λ (frame : Frame). frame.nanos < 2 ^ 63) (sym here) (in_range_at 0 frames orderly i f within).nanos
+-- the time of a frame is in range, and so is 0
+pub nanos_timely : (low : ℕ) (frames : List Frame) (n : ℕ) → IsOrderlyFrom low frames → nanos_at frames n < 2 ^ 63
+nanos_timely low [] n h = omega arith
+nanos_timely low (x ∷ xs) n h = either (nat_eq x.number n) (nanos_timely (x.number + 1) xs n h.2) where
+  either : (b : Bool) → nanos_at xs n < 2 ^ 63
+      → unwrap_or (option_map (λ (frame : Frame). frame.nanos) (if b then Some x else frame_numbered xs n)) 0 < 2 ^ 63
+  either true rest = h.1.nanos
+  either false rest = rest
 
 -- there is none where no frame has the number
 pub frame_numbered_none : (frames : List Frame) (n : ℕ)

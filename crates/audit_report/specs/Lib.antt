@@ -6,7 +6,6 @@ pub mod EndLine
 pub mod Endpoint
 pub mod FindingLine
 pub mod FlowLine
-pub mod FrameLookup
 pub mod Line
 pub mod RecordLines
 pub mod ReportText

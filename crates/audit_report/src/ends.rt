@@ -3,7 +3,7 @@ ghost use Rattle.audit_terms.specs.declared.sides.Side.{Side};
 ghost use Rattle.audit_terms.specs.Side.{is_side};
 ghost use Rattle.audit_terms.specs.Place.{place_stream};
 
-use audit_terms::{Finding, Side, Sides};
+use audit_terms::{Side, Sides, TimedFinding};
 use std::alloc::{AllocError, Global};
 use std::collections::BTreeMap;
 
@@ -11,7 +11,7 @@ use std::collections::BTreeMap;
 /// maps, in which no streams collide.
 #[derive(Drop)]
 pub(crate) struct Ends {
-    pub(crate) by_side: Sides<BTreeMap<u32, Finding>>,
+    pub(crate) by_side: Sides<BTreeMap<u32, TimedFinding>>,
 }
 
 impl Ends {
@@ -29,7 +29,7 @@ impl Ends {
     }
 
     /// The end that is kept for this window.
-    pub(crate) fn of(&self, side: Side, stream: u32) -> Option<Finding>
+    pub(crate) fn of(&self, side: Side, stream: u32) -> Option<TimedFinding>
         ensures { result ≡ end_in self.now side stream }
     {
         match side {
@@ -39,7 +39,7 @@ impl Ends {
     }
 
     /// Keeps this end for its window, in place of the one before.
-    pub(crate) fn put(&mut self, end: Finding) -> Result<(), AllocError>
+    pub(crate) fn put(&mut self, end: TimedFinding) -> Result<(), AllocError>
         ensures { OnOk result ((side : Side) (stream : ℕ) → end_in self.new side stream
             ≡ (if is_side side end.side && (place_stream end.place == stream)
             then Some end

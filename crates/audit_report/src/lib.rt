@@ -12,18 +12,21 @@
 //!   For HTTP/2, [`add_finding_lines`] goes on, page after page, from the frames and what was found in them; then come
 //!   [`add_stall_lines`] and [`add_end_line`]. Where nothing was found, only the end line follows, and no frames are
 //!   needed.
+//! - A line is made of a finding that has the record and the time of its frame: [`add_timed_lines`] and
+//!   [`timed_stalls`] take such findings, and no frames; [`add_finding_lines`] and [`stall_pairs`] look the frames up.
 //! - Definitions of whole reports are over a list of [`Audited`], one for each connection.
 //! - The definition of stalls (`specs/Stalls.antt`) looks forward from each beginning for the first end of the same
-//!   side and stream; [`stall_pairs`] reads the findings once, from the back, and keeps the nearest end of each window
-//!   in a table.
+//!   side and stream; [`stall_pairs`] and [`timed_stalls`] read the findings once, from the back, and keep the nearest
+//!   end of each window in a table.
 //! - The contracts have every word, number, sign, space and line end, the order of lines, and which findings are shown:
 //!   credits are left out by their kind, unless they are asked for. Counts are over packets, one for each record, so
 //!   they add up. The last finding alone decides how an audit ended. Want of memory is the one error, and only of the
 //!   calls that take an allocator.
-//! - Asked of the caller: orderly frames, and room; nothing of the findings. A finding whose frame is missing would
-//!   have record 0 and time 0, which no report meets. A finding's frame is looked up at its own number first, since
-//!   frame n has index n - 1, then by binary search. A line is made backwards from its end, in one buffer for all
-//!   (`lines`), and then appended to the page at once.
+//! - Asked of the caller: orderly frames, and room; of the findings only that the times that [`timed_stalls`] takes are
+//!   below 2^63. A finding whose frame is missing would have record 0 and time 0, which no report meets. A finding's
+//!   frame is looked up near the one before it, for lines, then at its own number, since frame n has index n - 1, then
+//!   by binary search. A line is made backwards from its end, in one buffer for all (`lines`), and then appended to the
+//!   page at once.
 //! - [`worked_examples`] shows stalls: of both sides, of several windows, without an end, by a clock that went back.
 //! - Refused by the prover: the cut record left out, a packet that counts twice, a sign left out, an end of a stall
 //!   that has none.
@@ -57,8 +60,8 @@ pub use capture::{CaptureLines, capture_lines};
 pub use contents::Contents;
 pub use endings::{add_end_line, add_stall_lines};
 pub use extents::Extent;
-pub use findings::add_finding_lines;
+pub use findings::{add_finding_lines, add_timed_lines};
 pub use headings::SectionHeading;
 pub use lines::LINE_ROOM;
 pub use opening_lines::add_opening;
-pub use stalls::{Stall, stall_pairs};
+pub use stalls::{Stall, stall_pairs, timed_stalls};

@@ -1,15 +1,78 @@
-ghost use Rattle.std.specs.Prelude.{◌≡◌, ◌<◌, ◌^◌, IfSome};
+ghost use Rattle.std.specs.Prelude.{◌≡◌, option_map, unwrap_or};
 ghost use Rattle.audit_terms.specs.code.runs.Orderly.{IsOrderly};
-ghost use Rattle.audit_report.specs.FrameLookup.{frame_numbered};
+ghost use Rattle.audit_terms.specs.Timed.{frame_numbered, timed, timed_at};
 
-use audit_terms::Frame;
+use audit_terms::{Finding, Frame, TimedFinding};
+
+/// Looks up the frames of findings that stand in order.
+#[derive(Drop)]
+pub(crate) struct Lookup {
+    /// The number of the frame that was looked up last, and where it stands.
+    number: u32,
+    at: usize,
+}
+
+impl Lookup {
+    /// No frame was looked up.
+    pub(crate) fn first() -> Lookup {
+        Lookup { number: 0, at: 0 }
+    }
+
+    /// The finding, with the record and the time of the frame of its number. For a missing frame both are 0.
+    pub(crate) fn timed(&mut self, finding: &Finding, frames: &[Frame]) -> TimedFinding
+        requires { IsOrderly frames.now }
+        ensures { result ≡ timed frames.now finding.now }
+    {
+        let number = finding.place.number();
+        let (at, found) = frame_near(frames, self.place_of(number), number);
+        self.number = number;
+        self.at = at;
+        timed_by(finding, found)
+    }
+
+    /// Where the frame of this number may stand: findings are in the order of frames.
+    fn place_of(&self, number: u32) -> usize {
+        if number == self.number {
+            self.at
+        } else {
+            self.at.saturating_add(1)
+        }
+    }
+}
+
+/// The finding, with the record and the time of the frame of its number, whatever was looked up before. For a missing
+/// frame both are 0.
+pub(crate) fn timed_in(frames: &[Frame], finding: &Finding) -> TimedFinding
+    requires { IsOrderly frames.now }
+    ensures { result ≡ timed frames.now finding.now }
+{
+    let (_, found) = frame_at(frames, finding.place.number());
+    timed_by(finding, found)
+}
+
+/// The finding, with the record and the time of its frame, if that was found; else both are 0.
+fn timed_by(finding: &Finding, found: Option<Frame>) -> TimedFinding
+    ensures { result ≡ timed_at (unwrap_or (option_map (λ frame. frame.rec) found) 0)
+        (unwrap_or (option_map (λ frame. frame.nanos) found) 0) finding.now }
+{
+    match found {
+        Some(frame) => TimedFinding::of(finding, &frame),
+        None => TimedFinding {
+            place: finding.place,
+            value: finding.value,
+            nanos: 0,
+            rec: 0,
+            kind: finding.kind,
+            side: finding.side,
+        },
+    }
+}
 
 /// Where the frame of this number stands, and the frame. It is first looked up where it may be.
 #[inline]
-pub(crate) fn frame_near(frames: &[Frame], guess: usize, number: u32) -> (usize, Option<Frame>)
+fn frame_near(frames: &[Frame], guess: usize, number: u32) -> (usize, Option<Frame>)
     requires { IsOrderly frames.now }
-    ensures value { result.1 ≡ frame_numbered frames.now number }
-    ensures timely { IfSome result.1 (λ frame. frame.nanos < 2 ^ 63) }
+    ensures { result.1 ≡ frame_numbered frames.now number }
 {
     match frames.get(guess) {
         Some(frame) if frame.number == number => (guess, Some(*frame)),
@@ -19,10 +82,9 @@ pub(crate) fn frame_near(frames: &[Frame], guess: usize, number: u32) -> (usize,
 
 /// The same. It is first looked up as far behind the first frame as their numbers differ: there it is, if numbers have
 /// no gap.
-pub(crate) fn frame_at(frames: &[Frame], number: u32) -> (usize, Option<Frame>)
+fn frame_at(frames: &[Frame], number: u32) -> (usize, Option<Frame>)
     requires { IsOrderly frames.now }
-    ensures value { result.1 ≡ frame_numbered frames.now number }
-    ensures timely { IfSome result.1 (λ frame. frame.nanos < 2 ^ 63) }
+    ensures { result.1 ≡ frame_numbered frames.now number }
 {
     let offset = offset_of(frames, number);
     match frames.get(offset) {
@@ -34,8 +96,7 @@ pub(crate) fn frame_at(frames: &[Frame], number: u32) -> (usize, Option<Frame>)
 /// The same, by binary search.
 fn search(frames: &[Frame], number: u32) -> (usize, Option<Frame>)
     requires { IsOrderly frames.now }
-    ensures value { result.1 ≡ frame_numbered frames.now number }
-    ensures timely { IfSome result.1 (λ frame. frame.nanos < 2 ^ 63) }
+    ensures { result.1 ≡ frame_numbered frames.now number }
 {
     match frames.binary_search_by_key(&number, |frame| frame.number) {
         Ok(at) => (at, Some(frames[at])),

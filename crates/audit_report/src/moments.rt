@@ -1,24 +1,16 @@
-//! The record and the time of a frame, spelled once for all lines that have them: those of one frame, and of all frames
-//! that end in one record.
+//! A record and a time, spelled once for all lines that have them: those of one frame, and of all frames that end in
+//! one record.
 
 ghost use Rattle.std.specs.Prelude.{◌≡◌, ◌+◌, ◌≤◌, drop, length};
-ghost use Rattle.audit_terms.specs.code.runs.Orderly.{IsOrderly};
-ghost use Rattle.audit_report.specs.FindingLine.{record_at};
-ghost use Rattle.audit_report.specs.FrameLookup.{nanos_at};
 ghost use Rattle.audit_report.specs.code.Findings.{IsSpelled, moment_text};
 
 use crate::lines::{LINE_ROOM, put_field};
-use crate::lookup::frame_near;
-use audit_terms::Frame;
 
 /// A record and a time, and both as a line has them.
 #[derive(Drop)]
 pub(crate) struct Moment {
     pub(crate) rec: u32,
     pub(crate) nanos: u64,
-    /// The number of the frame that was looked up last, and where it stands.
-    number: u32,
-    at: usize,
     /// The spelling, from index `begin` on.
     pub(crate) spelled: [u8; LINE_ROOM],
     pub(crate) begin: usize,
@@ -34,41 +26,22 @@ impl Moment {
         Moment {
             rec: 0,
             nanos: 0,
-            number: 0,
-            at: 0,
             spelled,
             begin,
         }
     }
 
-    /// Goes to the frame of this number. For a missing one both are 0.
-    pub(crate) fn go_to(&mut self, number: u32, frames: &[Frame])
-        requires frames { IsOrderly frames.now }
-        requires spelled { IsSpelled self.old }
+    /// Goes to a record and a time, which are spelled anew where one of them is another.
+    pub(crate) fn go_to(&mut self, rec: u32, nanos: u64)
+        requires { IsSpelled self.old }
         ensures spelled { IsSpelled self.new }
-        ensures rec { self.new.rec ≡ record_at frames.now number }
-        ensures nanos { self.new.nanos ≡ nanos_at frames.now number }
+        ensures rec { self.new.rec ≡ rec }
+        ensures nanos { self.new.nanos ≡ nanos }
     {
-        let (at, found) = frame_near(frames, self.place_of(number), number);
-        self.number = number;
-        self.at = at;
-        let (rec, nanos) = match found {
-            Some(frame) => (frame.rec, frame.nanos),
-            None => (0, 0),
-        };
         if self.rec != rec || self.nanos != nanos {
             self.begin = spell(&mut self.spelled, rec, nanos);
             self.rec = rec;
             self.nanos = nanos;
-        }
-    }
-
-    /// Where the frame of this number may stand: findings are in the order of frames.
-    fn place_of(&self, number: u32) -> usize {
-        if number == self.number {
-            self.at
-        } else {
-            self.at.saturating_add(1)
         }
     }
 

@@ -1,16 +1,16 @@
-ghost use Rattle.std.specs.Prelude.{◌≡◌, ℕ, ◌++◌, if◌then◌else◌, IfOk, List, OnOk, pos, Some};
+ghost use Rattle.std.specs.Prelude.{◌≡◌, ℕ, ◌++◌, ◌<◌, ◌^◌, if◌then◌else◌, All, IfOk, IfSome, List, OnOk, Some, map};
 ghost use Rattle.std.specs.List.{flat_map};
 ghost use Rattle.audit_terms.specs.code.runs.Orderly.{IsOrderly};
 ghost use Rattle.audit_terms.specs.Place.{place_stream};
-ghost use Rattle.audit_report.specs.FrameLookup.{nanos_at};
-ghost use Rattle.audit_report.specs.Stalls.{is_end_of, stall_of, stalls};
-ghost use Rattle.audit_report.specs.code.Ends.{HasSweptTo, end_in, begun_by};
-ghost use Rattle.audit_terms.specs.declared.findings.Finding.{Finding as FindingTerm};
+ghost use Rattle.audit_terms.specs.Timed.{timed};
+ghost use Rattle.audit_report.specs.Stalls.{is_end_of, stall_of, stalls, timed_stalls};
+ghost use Rattle.audit_report.specs.code.Ends.{AreEndsInTime, HasSweptTo, end_in, begun_by};
+ghost use Rattle.audit_terms.specs.declared.timed_findings.TimedFinding.{TimedFinding as TimedTerm};
 ghost use Rattle.audit_terms.specs.declared.sides.Side.{Side};
 
 use crate::ends::Ends;
-use crate::lookup::frame_at;
-use audit_terms::{Finding, Frame, Side};
+use crate::lookup::timed_in;
+use audit_terms::{Finding, Frame, Side, TimedFinding};
 use std::alloc::{AllocError, Global};
 
 /// A time during which a window had no credit.
@@ -51,6 +51,22 @@ pub fn stall_pairs(
     Ok(stalls)
 }
 
+/// The same of findings that have their times, in one list. The times fit the signed type, as those of frames do.
+pub fn timed_stalls(alloc: Global, findings: &[TimedFinding]) -> Result<Vec<Stall>, AllocError>
+    requires in_time { All (λ one. one.nanos < 2 ^ 63) findings.now }
+    ensures { IfOk result (λ v. v.items ≡ timed_stalls findings.now) }
+{
+    let mut ends = Ends::new(alloc);
+    let mut stalls = Vec::new(alloc);
+    let mut left = findings.len();
+    while left > 0 {
+        left -= 1;
+        take_in(&findings[left], &mut ends, &mut stalls)?;
+    }
+    stalls.reverse();
+    Ok(stalls)
+}
+
 /// Sweeps one list more, from the back. `ends` has the first end of each window among the findings after it.
 fn sweep(
     findings: &[Finding],
@@ -58,32 +74,52 @@ fn sweep(
     ends: &mut Ends,
     stalls: &mut Vec<Stall>,
 ) -> Result<(), AllocError>
-    requires { IsOrderly frames.now }
-    ensures { OnOk result ((later : List FindingTerm) → HasSweptTo frames.now later ends.old stalls.old.items
-        → HasSweptTo frames.now (findings.now ++ later) ends.new stalls.new.items) }
+    requires frames { IsOrderly frames.now }
+    requires in_time { AreEndsInTime ends.old }
+    ensures in_time { OnOk result (AreEndsInTime ends.new) }
+    ensures swept { OnOk result ((later : List TimedTerm) → HasSweptTo later ends.old stalls.old.items
+        → HasSweptTo (map (timed frames.now) findings.now ++ later) ends.new stalls.new.items) }
 {
     let mut left = findings.len();
     while left > 0 {
         left -= 1;
-        take_in(&findings[left], frames, ends, stalls)?;
+        look_at(&findings[left], frames, ends, stalls)?;
     }
     Ok(())
 }
 
-/// One step of the sweep from the back: `ends` has the first end of each window among the findings after this one.
-fn take_in(
+/// One step of the sweep from the back. The frame is looked up only of a finding that begins or ends a stall.
+fn look_at(
     found: &Finding,
     frames: &[Frame],
     ends: &mut Ends,
     stalls: &mut Vec<Stall>,
 ) -> Result<(), AllocError>
-    requires { IsOrderly frames.now }
-    ensures begun { OnOk result (stalls.new.items ≡ stalls.old.items ++ begun_by frames.now ends.old found.now) }
+    requires frames { IsOrderly frames.now }
+    requires in_time { AreEndsInTime ends.old }
+    ensures begun { OnOk result (stalls.new.items
+        ≡ stalls.old.items ++ begun_by ends.old (timed frames.now found.now)) }
+    ensures ended { OnOk result ((side : Side) (stream : ℕ) → end_in ends.new side stream
+        ≡ (if is_end_of side stream (timed frames.now found.now)
+        then Some (timed frames.now found.now)
+        else end_in ends.old side stream)) }
+{
+    if found.kind.begins_stall() || found.kind.ends_stall() {
+        take_in(&timed_in(frames, found), ends, stalls)?;
+    }
+    Ok(())
+}
+
+/// One step of the sweep from the back: `ends` has the first end of each window among the findings after this one.
+fn take_in(found: &TimedFinding, ends: &mut Ends, stalls: &mut Vec<Stall>) -> Result<(), AllocError>
+    requires found { found.now.nanos < 2 ^ 63 }
+    requires in_time { AreEndsInTime ends.old }
+    ensures begun { OnOk result (stalls.new.items ≡ stalls.old.items ++ begun_by ends.old found.now) }
     ensures ended { OnOk result ((side : Side) (stream : ℕ) → end_in ends.new side stream
         ≡ (if is_end_of side stream found.now then Some found.now else end_in ends.old side stream)) }
 {
     if found.kind.begins_stall() {
-        stalls.push(begun_stall(*found, frames, ends))?;
+        stalls.push(begun_stall(*found, ends))?;
     }
     if found.kind.ends_stall() {
         ends.put(*found)?;
@@ -92,16 +128,18 @@ fn take_in(
 }
 
 /// The stall that the finding begins.
-fn begun_stall(found: Finding, frames: &[Frame], ends: &Ends) -> Stall
-    requires { IsOrderly frames.now }
-    ensures { result ≡ stall_of frames.now found (end_in ends.now found.side (place_stream found.place)) }
+fn begun_stall(found: TimedFinding, ends: &Ends) -> Stall
+    requires found { found.nanos < 2 ^ 63 }
+    requires in_time { AreEndsInTime ends.now }
+    ensures { result ≡ stall_of found (end_in ends.now found.side (place_stream found.place)) }
 {
-    stall_between(frames, found, ends.of(found.side, found.place.stream()))
+    stall_between(found, ends.of(found.side, found.place.stream()))
 }
 
-fn stall_between(frames: &[Frame], begin: Finding, end: Option<Finding>) -> Stall
-    requires { IsOrderly frames.now }
-    ensures { result ≡ stall_of frames.now begin end }
+fn stall_between(begin: TimedFinding, end: Option<TimedFinding>) -> Stall
+    requires begin { begin.nanos < 2 ^ 63 }
+    requires end { IfSome end (λ one. one.nanos < 2 ^ 63) }
+    ensures { result ≡ stall_of begin end }
 {
     let open = Stall {
         side: begin.side,
@@ -113,22 +151,9 @@ fn stall_between(frames: &[Frame], begin: Finding, end: Option<Finding>) -> Stal
     let Some(end) = end else {
         return open;
     };
-    let to = end.place.number();
     Stall {
-        to: Some(to),
-        nanos: time_of(frames, to) - time_of(frames, open.from),
+        to: Some(end.place.number()),
+        nanos: end.nanos as i64 - begin.nanos as i64,
         ..open
-    }
-}
-
-/// The time of a frame, which fits the signed type.
-fn time_of(frames: &[Frame], number: u32) -> i64
-    requires { IsOrderly frames.now }
-    ensures { result ≡ pos (nanos_at frames.now number) }
-{
-    let (_, found) = frame_at(frames, number);
-    match found {
-        Some(frame) => frame.nanos as i64,
-        None => 0,
     }
 }

@@ -1,5 +1,5 @@
 -- The jobs of the round over connections, and what their parts keep of flows.
-use Rattle.std.proofs.Common.{◌≡◌, ℕ, suc, ◌<◌, Bool, List, [], ◌∷◌, ◌++◌, length, slice_get}
+use Rattle.std.proofs.Common.{◌≡◌, ℕ, suc, ◌<◌, ◌^◌, Bool, List, [], ◌∷◌, ◌++◌, length, slice_get}
 use Rattle.std.proofs.Common.{All, Option, Some, None, Bor, map, refl, sym, subst, ap, ◌∙◌}
 use Rattle.std.proofs.Common.{arith}
 use Rattle.std.proofs.lemmas.List.{get_or-map, length-map}
@@ -26,6 +26,10 @@ use Rattle.h2audit.specs.declared.listed_connections.HeldFlows.{HeldFlows}
 use Rattle.quiet_pass.specs.code.FoundConnections.{IsFoundOf}
 use Rattle.quiet_pass.specs.declared.found_connections.FoundConnection.{FoundConnection}
 use Rattle.h2audit.specs.code.KeptFrames.{frames_of, kept_frames}
+use Rattle.h2audit.proofs.TimedFindings.{all-in-time, alone}
+use Rattle.audit_terms.specs.code.TimedFindings.{finding_in}
+use Rattle.audit_terms.specs.declared.timed_findings.TimedFinding.{TimedFinding}
+use Rattle.audit_terms.specs.{Finding.shown, Pass.pass}
 use Rattle.stop_desk.specs.code.Board.{Job, IsCut}
 use Rattle.stop_desk.specs.declared.parts.Part.{Part}
 use Rattle.packet_heads.specs.declared.packets.Packet.{Packet}
@@ -80,8 +84,6 @@ are-made credits (h ∷ held) (p ∷ parts) same each =
 
 pub held-orderly : (credits : Bool) (client server : Flow) (o : Outcome) → IsHeldBy credits client server o
     → HasOrderlyOutcome o
-held-orderly credits client server (outcome.Found found) held =
-    rw held.kept.frames held.of_flows.some_orderly
 held-orderly credits client server (outcome.Audited audited) held = held.2
 held-orderly credits client server _ held = tt
 
@@ -138,11 +140,19 @@ held-found credits client server found (outcome.Quiet quiet) keeps is = record {
   http2 = subst (λ (t : Sides ℕ). h2.IsHttp2 client server is.frames t) (sym keeps.1) is.http2;
   orderly = is.orderly;
   count = keeps.0 ∙ is.count;
-  silent = sym is.findings ∙ keeps.2;
+  silent = sym (alone is.frames (shown credits (pass is.frames)))
+      ∙ ap (map finding_in) (sym is.findings ∙ keeps.2);
 }
 held-found credits client server found (outcome.Found made) keeps is =
     record { found = found; of_flows = is; kept = keeps }
 held-found credits client server found _ keeps is = absurd keeps
+
+-- times of what is found in flows are in range
+pub found-in-time : (credits : Bool) (client server : Flow) (found : FoundConnection)
+    → IsFoundOf credits client server found → All (λ (one : TimedFinding). one.nanos < 2 ^ 63) found.findings.items
+found-in-time credits client server found is =
+    subst (All (λ (one : TimedFinding). one.nanos < 2 ^ 63)) (sym is.findings)
+    (all-in-time is.frames is.orderly (shown credits (pass is.frames)))
 
 gap-from : (sources : ℕ → Option Source) (n : ℕ) (gap : Option ℕ) → IsGap sources n gap
     → (offset : ℕ) → gap ≡ Some offset → offset ≡ n

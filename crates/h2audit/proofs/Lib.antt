@@ -8,7 +8,7 @@ mod Opened
 mod Numbers
 mod OptionReads
 mod Added
-mod Alike
+mod TimedFindings
 mod Zips
 mod MetAudits
 mod Openings

@@ -12,7 +12,7 @@ use Rattle.audit_terms.specs.declared.{findings.Finding.Finding, sides.Sides.Sid
 use Rattle.audit_terms.specs.declared.sides.Side.TheVariants.{Client, Server}
 use Rattle.h2_frames.specs.declared.cuts.Cut.{Cut}
 use Rattle.h2_frames.specs.declared.cuts.Cut.TheVariants.{Http2, NotHttp2, NoPreface, NoHandshake}
-use Rattle.h2audit.proofs.Alike.{lines-alike}
+use Rattle.h2audit.proofs.TimedFindings.{alone, lines-timed}
 use Rattle.h2audit.specs.code.Headings.{heading_of}
 use Rattle.report_pages.specs.code.Sections.{outcome_text, told_text}
 use Rattle.report_pages.specs.code.Told.{AreToldOf, IsOutcomeOf, contents_in}
@@ -63,9 +63,9 @@ contents-same _ _ findings h = absurd h
 outcome-same : (shown : Bool) (o : Outcome) (cut : Cut) (findings : List Finding) → IsOutcomeOf o cut findings
     → outcome_text shown o ≡ findings_text shown cut findings
 outcome-same shown (outcome.Quiet quiet) (Http2 frames tails) findings h = rw h.2 refl
-outcome-same shown (outcome.Found found) (Http2 frames tails) findings h = rw (h.2, h.3)
+outcome-same shown (outcome.Found found) (Http2 frames tails) findings h = rw (h.2, h.3, alone frames.items findings)
     (ap (λ l. l ++ stall_lines (stalls frames.items findings) ++ end_line findings)
-    (lines-alike frames.items found.value.audited.frames.items shown findings h.4))
+    (lines-timed frames.items shown findings))
 outcome-same shown (outcome.Audited audited) (Http2 frames tails) findings h = rw (h.0, h.2, h.3) refl
 outcome-same shown outcome.NotHttp2 NotHttp2 findings h = refl
 outcome-same shown outcome.NoPreface NoPreface findings h = refl

@@ -6,14 +6,14 @@ use Rattle.audit_terms.specs.{Finding.shown, Kind.is_fault, Pass.pass}
 use Rattle.audit_terms.specs.declared.{findings.Finding.Finding}
 use Rattle.audit_terms.specs.declared.sides.{Side.TheVariants.Client, Side.TheVariants.Server, Sides.Sides}
 use Rattle.h2_frames.specs.{Cut.IsCut, declared.cuts.Cut.Cut}
-use Rattle.h2audit.proofs.Alike.{stalls-alike}
+use Rattle.h2audit.proofs.TimedFindings.{faults-timed}
 use Rattle.h2audit.specs.Audited.{IsAudited, IsFlowOf, findings_of, has_fault}
 use Rattle.h2audit.specs.code.Flows.{AreToldAudits, AreToldFlows, IsHeldBy}
 use Rattle.h2audit.specs.code.KeptFrames.{AreFound, AreToldWith, IsOutcomeWith, IsToldWith, frames_of, kept_frames}
 use Rattle.h2audit.specs.code.KeptFrames.{left_after, shown_in_kept}
 use Rattle.split_merge.specs.{code.Findings.findings_in, declared.findings.Findings.Findings}
 use Rattle.report_pages.specs.declared.told.AuditedFrames.{AuditedFrames}
-use Rattle.audit_report.specs.Stalls.{stalls}
+use Rattle.audit_report.specs.Stalls.{stalls, timed_stalls}
 use Rattle.audit_terms.specs.{code.runs.Orderly.IsOrderly, declared.frames.Frame.Frame}
 use Rattle.h2audit.specs.code.Verdict.{has_fault_in}
 use Rattle.report_pages.specs.code.Reach.{extents_in}
@@ -22,11 +22,13 @@ use Rattle.report_pages.specs.declared.{reach.Reach.Reach, told.Outcome.Outcome,
 use Rattle.report_pages.specs.declared.told.Outcome.TheVariants.{Audited, Found, NoHandshake, NoPreface, NotHttp2}
 use Rattle.report_pages.specs.declared.told.Outcome.TheVariants.{Quiet}
 use Rattle.packet_heads.specs.declared.packets.Packet.{Packet}
-use Rattle.quiet_pass.specs.code.FoundConnections.{IsNamedAlike}
-use Rattle.std.specs.List.{AllByRecursion, flat_map}
+use Rattle.audit_terms.specs.Timed.{timed}
+use Rattle.audit_terms.specs.declared.timed_findings.TimedFinding.{TimedFinding}
+use Rattle.std.specs.List.{flat_map}
 use Rattle.std.proofs.Common.{true, false, Bool, Box, Global, List, Vec, [], ap, arith, length, map, refl, subst, sym}
 use Rattle.std.proofs.Common.{ℕ, ◌++◌, ◌<◌}
-use Rattle.std.proofs.{Common.◌^◌, Common.◌||◌, Common.◌∙◌, Common.◌∷◌, Common.◌≡◌, lemmas.List.map-append}
+use Rattle.std.proofs.{Common.◌^◌, Common.◌||◌, Common.◌∙◌, Common.◌∷◌, Common.◌≡◌}
+use Rattle.std.proofs.lemmas.List.{length-map, map-append}
 use Rattle.std.proofs.{Common.All, lemmas.List.Elements.All-cons, lemmas.List.Elements.All-head}
 use Rattle.std.{proofs.lemmas.List.Elements.All-nil, proofs.lemmas.List.Elements.All-tail, specs.List.list_any}
 use Rattle.tcp_streams.specs.declared.{members.Connection.Connection, flows.Flow.Flow}
@@ -135,15 +137,16 @@ module _ (credits : Bool) (capture : List ℕ) (packets : List Packet) (c : Conn
   step-of (Found told) held found same one reached made here with_them =
       let is = held.of_flows in
       let kept = held.kept in
-      let findings = held.found.findings in
+      let findings = shown credits (pass is.frames) in
       let fit = length-orderly 0 is.frames (omega arith) is.orderly in
       let frames = list-of c.members is.frames (omega arith) in
-      let stalls_are = kept.stalls_are ∙ stalls-alike is.frames held.found.shown_at.items findings.items is.named in
-      let named = subst (λ (l : List Frame). AllByRecursion (IsNamedAlike is.frames l) findings.items)
-      (sym kept.frames) is.named in
-      unkept (Found told) (cut.Http2 frames held.found.tails) findings (is.started, is.http2)
-      is.findings found same refl one reached (here ∙ with_them)
-      (kept.count ∙ is.count, kept.tails, kept.findings, stalls_are, named) (rw kept.frames is.some_orderly)
+      let timed_are : told.value.findings.items ≡ map (timed is.frames) findings =
+      ap (λ (l : Vec TimedFinding Global). l.items) kept.findings ∙ is.findings in
+      let all = list-of told.value.findings findings
+      (omega (arith, told.value.findings.small, ap length timed_are, length-map findings (timed is.frames))) in
+      unkept (Found told) (cut.Http2 frames held.found.tails) all (is.started, is.http2)
+      (refl {A = List Finding}) found same refl one reached (here ∙ with_them)
+      (kept.count ∙ is.count, kept.tails, timed_are, kept.stalls_are ∙ ap timed_stalls is.findings) tt
   step-of (Audited audited) held [] same one reached made here with_them = absurd cc
   step-of (Audited audited) held (findings ∷ found) same one reached (Audited told) here with_them =
       kept audited told held findings found same one reached here with_them
@@ -278,7 +281,7 @@ any-of-all f (list ∷ lists) =
 fault-same : (o : Outcome) (held : Cut) (findings : List Finding) → IsOutcomeOf o held findings
     → has_fault_in o ≡ list_any (λ (finding : Finding). is_fault finding.kind) findings
 fault-same (Quiet quiet) (cut.Http2 frames tails) findings h = rw h.2 refl
-fault-same (Found found) (cut.Http2 frames tails) findings h = rw h.2 refl
+fault-same (Found found) (cut.Http2 frames tails) findings h = rw h.2 (faults-timed frames.items findings)
 fault-same (Audited audited) (cut.Http2 frames tails) findings h = rw h.2 refl
 fault-same NotHttp2 cut.NotHttp2 findings h = rw h refl
 fault-same NoPreface cut.NoPreface findings h = rw h refl

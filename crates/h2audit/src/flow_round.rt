@@ -1,12 +1,11 @@
 //! The round over connections: what is shown of each, where that is told at once.
 
-ghost use Rattle.std.specs.Prelude.{◌≡◌, IfOk, IfSome};
-ghost use Rattle.audit_terms.specs.code.runs.Orderly.{IsOrderly};
+ghost use Rattle.std.specs.Prelude.{◌≡◌, ◌<◌, ◌^◌, All, IfOk, IfSome};
 ghost use Rattle.h2audit.specs.code.Flows.{IsMadeOf, KeepsCut, KeepsFound};
 ghost use Rattle.h2audit.specs.code.Listed.{HasFlows};
 
 use crate::listed_connections::HeldFlows;
-use audit_report::stall_pairs;
+use audit_report::timed_stalls;
 use audit_terms::Look;
 use h2_frames::Cut;
 use quiet_pass::{FoundConnection, QuietConnection, found_in};
@@ -101,29 +100,23 @@ fn outcome_at_once(
 
 /// What was found of a connection, with its stalls.
 pub(crate) fn outcome_found(alloc: Global, found: FoundConnection) -> Result<Outcome, AllocError>
-    requires { IsOrderly found.shown_at.items }
+    requires { All (λ one. one.nanos < 2 ^ 63) found.findings.items }
     ensures { IfOk result (λ outcome. KeepsFound outcome found) }
 {
     let FoundConnection {
         frames,
         tails,
         findings,
-        shown_at,
     } = found;
     if findings.is_empty() {
         return Ok(Outcome::Quiet(QuietConnection { frames, tails }));
     }
-    let findings = Findings::of(alloc, findings)?;
-    let stalls = stall_pairs(alloc, findings.lists.as_slice(), shown_at.as_slice())?;
-    let audited = AuditedFrames {
-        frames: shown_at,
+    let stalls = timed_stalls(alloc, findings.as_slice())?;
+    let found = FoundFrames {
+        count: frames,
         tails,
         findings,
         stalls,
-    };
-    let found = FoundFrames {
-        count: frames,
-        audited,
     };
     Ok(Outcome::Found(Box::new(alloc, found)?))
 }

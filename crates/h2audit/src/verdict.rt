@@ -1,11 +1,12 @@
+ghost use Rattle.std.specs.List.{list_any};
 ghost use Rattle.std.specs.Prelude.{◌≡◌, List};
 ghost use Rattle.audit_report.specs.declared.audited.Audited.{Audited};
 ghost use Rattle.h2audit.specs.Audited.{verdict_of};
 ghost use Rattle.report_pages.specs.code.Told.{AreToldOf};
-ghost use Rattle.h2audit.specs.code.Verdict.{has_fault_in, is_faulty};
+ghost use Rattle.h2audit.specs.code.Verdict.{has_fault_in, is_faulty, is_timed_fault};
 ghost use Rattle.split_merge.specs.code.Findings.{findings_in};
 
-use audit_terms::Finding;
+use audit_terms::{Finding, TimedFinding};
 use report_pages::{Outcome, Told};
 use split_merge::Findings;
 
@@ -34,7 +35,7 @@ fn has_fault_in(outcome: &Outcome) -> bool
     ensures { result ≡ has_fault_in outcome.now }
 {
     match outcome {
-        Outcome::Found(found) => has_fault(&found.audited.findings),
+        Outcome::Found(found) => has_timed_fault(found.findings.as_slice()),
         Outcome::Audited(audited) => has_fault(&audited.findings),
         _ => false,
     }
@@ -44,6 +45,12 @@ fn has_fault(findings: &Findings) -> bool
     ensures { result ≡ is_faulty (findings_in findings.now) }
 {
     findings.lists.iter().any(|list| is_faulty(list.as_slice()))
+}
+
+fn has_timed_fault(findings: &[TimedFinding]) -> bool
+    ensures { result ≡ list_any is_timed_fault findings.now }
+{
+    findings.iter().any(|one| one.kind.is_fault())
 }
 
 fn is_faulty(findings: &[Finding]) -> bool

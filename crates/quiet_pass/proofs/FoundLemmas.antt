@@ -1,7 +1,7 @@
 -- What the machine has said of the frames so far, and of all.
 use Rattle.std.specs.List.{IsDistinct, list_any}
-use Rattle.std.proofs.Common.{◌≢◌, ◌≤◌, drop, find, get_or, take}
-use Rattle.std.proofs.lemmas.List.{take-append-drop, take_more}
+use Rattle.std.proofs.Common.{◌≢◌, ◌≤◌, drop, get_or, if◌then◌else◌, map, take, Global, Vec}
+use Rattle.std.proofs.lemmas.List.{map-append, take-append-drop, take_all, take_more}
 use Rattle.audit_terms.specs.laws.Pairs.{EachPair}
 use Rattle.audit_terms.specs.laws.Streams.{StreamsAreNamedOnce, StreamsAreThoseMet}
 use Rattle.audit_terms.proofs.FindingLists.{each-append, each-weaker}
@@ -11,17 +11,18 @@ use Rattle.audit_terms.specs.Finding.{stops}
 use Rattle.audit_terms.specs.Frame.{meets}
 use Rattle.audit_terms.specs.Pass.{PassState, full_from, next, pass, pass_start, said, streams_of}
 use Rattle.audit_terms.specs.Place.{place_number}
+use Rattle.audit_terms.specs.Timed.{frame_numbered, timed}
+use Rattle.audit_terms.specs.code.TimedFindings.{finding_in, timed_by}
+use Rattle.audit_terms.specs.declared.timed_findings.TimedFinding.{TimedFinding}
 use Rattle.audit_terms.specs.code.runs.Orderly.{IsInRange, IsOrderly, IsOrderlyFrom}
 use Rattle.audit_terms.specs.code.runs.States.{state_after, state_from}
 use Rattle.quiet_pass.proofs.PassLemmas.{full-append, full-more, named-all, state-more}
-use Rattle.quiet_pass.specs.code.FoundConnections.{IsNamedAlike}
-use Rattle.quiet_pass.specs.code.FoundPass.{AreBelow, AreFramesKept, HasSaid, HaveAllMet, IsFoundAfter, IsFrameKept}
-use Rattle.quiet_pass.specs.code.FoundPass.{named_with, IsAdded}
+use Rattle.quiet_pass.specs.code.FoundPass.{AreBelow, HasSaid, HaveAllMet, IsAdded, IsFoundAfter, IsTimedIn}
 use Rattle.quiet_pass.specs.code.QuietPass.{IsQuietStep, MovesLittle}
 use Rattle.quiet_pass.specs.code.SaidFrames.{HaveOwn, IsSaidStep}
 use Rattle.quiet_pass.specs.declared.found_passes.FoundPass.{FoundPass}
 use Rattle.stream_credit.proofs.QuietSteps.{none-shown}
-use Rattle.stream_credit.proofs.Words.{◌≡◌, ℕ, ◌+◌, ◌<◌, ◌==◌, Bool, true, false, List, [], ◌∷◌, ◌++◌, Some, Option}
+use Rattle.stream_credit.proofs.Words.{◌≡◌, ℕ, ◌+◌, ◌<◌, ◌==◌, Bool, true, false, List, [], ◌∷◌, ◌++◌, Some}
 use Rattle.stream_credit.proofs.Words.{refl, sym, ap, ◌∙◌, arith, append-nil, append_assoc, is_some}
 use Rattle.stream_credit.proofs.Words.{AllByRecursion, Finding, Frame, shown}
 use Rattle.stream_credit.proofs.Words.{length}
@@ -47,6 +48,26 @@ upto-past (x ∷ front) rest h = grind (arith, upto-past front rest)
 each-upto : (P : Finding → Type 0) (found : List Finding) → AllByRecursion P found → AllByRecursion P (upto_stop found)
 each-upto P [] h = tt
 each-upto P (x ∷ found) h = grind (arith, each-upto P found h.1, h.0)
+
+-- what is made of the elements of a list, one by one
+pub mapped-more : {A B : Type 0} (f : A → B) (xs : List A) (i : ℕ) (x : A) (y : B) (made next : List B)
+    → i < length xs → x ≡ get_or xs i x → made ≡ map f (take i xs) → y ≡ f x → next ≡ made ++ y ∷ []
+    → next ≡ map f (take (i + 1) xs)
+mapped-more f xs i x y made next low is so one more =
+    more ∙ rw so (rw one (sym (map-append f (take i xs) (x ∷ []))))
+    ∙ ap (map f) (sym (take_more xs i x low ∙ ap (λ z. take i xs ++ z ∷ []) (sym is)))
+
+pub mapped-all : {A B : Type 0} (f : A → B) (xs : List A) (i : ℕ) → length xs ≤ i → map f (take i xs) ≡ map f xs
+mapped-all f xs i all = ap (map f) (take_all i xs all)
+
+-- so it is behind others
+pub added-more : {A B : Type 0} (f : A → B) (xs : List A) (i : ℕ) (x : A) (y : B) (before made next : List B)
+    → i < length xs → x ≡ get_or xs i x → made ≡ before ++ map f (take i xs) → y ≡ f x → next ≡ made ++ y ∷ []
+    → next ≡ before ++ map f (take (i + 1) xs)
+added-more f xs i x y before made next low is so one more =
+    more ∙ ap (λ l. l ++ y ∷ []) so ∙ append_assoc before (map f (take i xs)) (y ∷ [])
+    ∙ ap (λ l. before ++ l) (mapped-more f xs i x y (map f (take i xs)) (map f (take i xs) ++ y ∷ []) low is refl one
+    refl)
 
 -- ---- the streams that frames name
 
@@ -128,114 +149,68 @@ pub orderly-upto : (low : ℕ) (front back : List Frame) → IsOrderlyFrom low (
 orderly-upto low [] back h = tt
 orderly-upto low (one ∷ front) back h = (h.0, h.1, orderly-upto (one.number + 1) front back h.2)
 
-orderly-more : (low : ℕ) (frames : List Frame) (frame : Frame) → IsOrderlyFrom low frames
-    → AreBelow frame.number frames → IsInRange frame → low ≤ frame.number → IsOrderlyFrom low (frames ++ frame ∷ [])
-orderly-more low [] frame h below range least = (least, range, tt)
-orderly-more low (one ∷ frames) frame h below range least =
-    (h.0, h.1, orderly-more (one.number + 1) frames frame h.2 below.1 range (omega (arith, below.0)))
-
 -- ---- the frames that findings name
 
 module _ (n : ℕ) where
-  abbrev found-in : List Frame → Option Frame
-  found-in frames = find (λ (frame : Frame). frame.number == n) frames
-
-  find-more : (frames : List Frame) (frame : Frame) → is_some (found-in frames) ≡ true
-      → found-in (frames ++ frame ∷ []) ≡ found-in frames
+  find-more : (frames : List Frame) (frame : Frame) → is_some (frame_numbered frames n) ≡ true
+      → frame_numbered (frames ++ frame ∷ []) n ≡ frame_numbered frames n
   find-more [] frame h = cc
   find-more (one ∷ frames) frame h = grind (arith, nat_tests, find-more frames frame)
 
   find-new : (frames : List Frame) (frame : Frame) → AreBelow frame.number frames → n ≡ frame.number
-      → found-in (frames ++ frame ∷ []) ≡ Some frame
+      → frame_numbered (frames ++ frame ∷ []) n ≡ Some frame
   find-new [] frame below e = grind (arith, nat_tests, e)
   find-new (one ∷ frames) frame below e = grind (arith, nat_tests, find-new frames frame below.1 e, below.0, e)
 
-kept-past : (all some : List Frame) (frame : Frame) (finding : Finding) → IsFrameKept all some finding
-    → IsFrameKept (all ++ frame ∷ []) some finding
-kept-past all some frame finding h = record {
-  alike = h.alike ∙ sym (find-more (place_number finding.place) all frame (ap is_some (sym h.alike) ∙ h.there));
-  there = h.there;
+timed-past : (frames : List Frame) (frame : Frame) (one : TimedFinding) → IsTimedIn frames one
+    → IsTimedIn (frames ++ frame ∷ []) one
+timed-past frames frame one h = record {
+  frame = h.frame;
+  there = find-more (place_number one.place) frames frame (ap is_some h.there) ∙ h.there;
+  rec = h.rec;
+  nanos = h.nanos;
 }
-
-kept-both : (all some : List Frame) (frame : Frame) (finding : Finding) → IsFrameKept all some finding
-    → IsFrameKept (all ++ frame ∷ []) (some ++ frame ∷ []) finding
-kept-both all some frame finding h =
-    let same = find-more (place_number finding.place) some frame h.there in record {
-      alike = same ∙ (kept-past all some frame finding h).alike;
-      there = ap is_some same ∙ h.there;
-    }
-
-kept-new : (all some : List Frame) (frame : Frame) (finding : Finding) → AreBelow frame.number all
-    → AreBelow frame.number some → place_number finding.place ≡ frame.number
-    → IsFrameKept (all ++ frame ∷ []) (some ++ frame ∷ []) finding
-kept-new all some frame finding low lows e =
-    let here = find-new (place_number finding.place) some frame lows e in record {
-      alike = here ∙ sym (find-new (place_number finding.place) all frame low e);
-      there = ap is_some here;
-    }
-
-below-front : (number : ℕ) (frames : List Frame) (frame : Frame) → AreBelow number (frames ++ frame ∷ [])
-    → AreBelow number frames
-below-front number [] frame h = tt
-below-front number (one ∷ frames) frame h = (h.0, below-front number frames frame h.1)
-
-below-last : (number : ℕ) (frames : List Frame) (frame : Frame) → AreBelow number (frames ++ frame ∷ [])
-    → frame.number < number
-below-last number [] frame h = h.0
-below-last number (one ∷ frames) frame h = below-last number frames frame h.1
 
 -- one frame more, of which nothing is found
-past : {all some : List Frame} {found : List Finding} (frame : Frame) → AreFramesKept all some found
-    → AreFramesKept (all ++ frame ∷ []) some found
-past {all} {some} {found} frame kept = record {
-  each = each-weaker (IsFrameKept all some) (IsFrameKept (all ++ frame ∷ []) some) (kept-past all some frame) found
-      kept.each;
-  orderly = kept.orderly;
-  below = λ number low. kept.below number (below-front number all frame low);
-}
+past : (frames : List Frame) (found : List TimedFinding) (frame : Frame) → AllByRecursion (IsTimedIn frames) found
+    → AllByRecursion (IsTimedIn (frames ++ frame ∷ [])) found
+past frames found frame h =
+    each-weaker (IsTimedIn frames) (IsTimedIn (frames ++ frame ∷ [])) (timed-past frames frame) found h
+
+-- what is found at the last frame
+timed-here : (frames : List Frame) (frame : Frame) → AreBelow frame.number frames → (said : List Finding)
+    → AllByRecursion (λ (finding : Finding). place_number finding.place ≡ frame.number) said
+    → AllByRecursion (IsTimedIn (frames ++ frame ∷ [])) (map (timed_by frame) said)
+timed-here frames frame low [] here = tt
+timed-here frames frame low (one ∷ said) here = (
+  record {
+    frame = frame;
+    there = find-new (place_number one.place) frames frame low here.0;
+    rec = refl;
+    nanos = refl;
+  },
+  timed-here frames frame low said here.1,
+)
 
 -- one frame more, at which this is found
-more : {all some : List Frame} {found : List Finding} (found-here : List Finding) (frame : Frame)
-    → AreFramesKept all some found
-    → IsOrderly (all ++ frame ∷ [])
-    → AllByRecursion (λ (finding : Finding). place_number finding.place ≡ frame.number) found-here
-    → AreFramesKept (all ++ frame ∷ []) (some ++ frame ∷ []) (found ++ found-here)
-more {all} {some} {found} found-here frame kept orderly here =
-    let low = orderly-below 0 all frame orderly in
-    let lows = kept.below frame.number low in record {
-      each = each-append (IsFrameKept (all ++ frame ∷ []) (some ++ frame ∷ [])) found found-here
-          (each-weaker (IsFrameKept all some) _ (kept-both all some frame) found kept.each)
-          (each-weaker (λ (finding : Finding). place_number finding.place ≡ frame.number) _
-          (λ finding e. kept-new all some frame finding low lows e) found-here here);
-      orderly = orderly-more 0 some frame kept.orderly lows (orderly-range 0 all frame orderly) (omega arith);
-      below = λ number all-low. each-append (λ (one : Frame). one.number < number) some (frame ∷ [])
-          (kept.below number (below-front number all frame all-low)) (below-last number all frame all-low, tt);
-    }
-
--- what is named where something is said, and where nothing is
-pub named-some : (frame : Frame) (said : List Finding) (frames : List Frame) → (length said ≡ 0 → ⊥)
-    → frames ++ frame ∷ [] ≡ named_with frame said frames
-named-some frame [] frames some = absurd (some refl)
-named-some frame (one ∷ said) frames some = refl
-
-pub none-added : (frame : Frame) (old new : FoundPass) {said : List Finding} → said ≡ []
-    → new.found ≡ old.found → new.shown_at ≡ old.shown_at → new.has_stopped ≡ list_any stops said
-    → new.frames_shown ≡ old.frames_shown → IsAdded frame said old new
-none-added frame old new {said} none found shown_at stopped same = record {
-  found = rw (found, none) (sym (append-nil old.found.items));
-  shown_at = rw (shown_at, none) refl;
-  stopped = stopped;
-  same = same;
-}
-
--- one frame more, at which this is found, or nothing
-found-more : {all some : List Frame} {found : List Finding} (here : List Finding) (frame : Frame)
-    → AreFramesKept all some found
-    → IsOrderly (all ++ frame ∷ [])
+more : (frames : List Frame) (found : List TimedFinding) (here : List Finding) (frame : Frame)
+    → AllByRecursion (IsTimedIn frames) found → IsOrderly (frames ++ frame ∷ [])
     → AllByRecursion (λ (finding : Finding). place_number finding.place ≡ frame.number) here
-    → AreFramesKept (all ++ frame ∷ []) (named_with frame here some) (found ++ here)
-found-more {all} {some} {found} [] frame kept orderly at = rw (append-nil found) (past frame kept)
-found-more {all} {some} {found} (one ∷ here) frame kept orderly at = more (one ∷ here) frame kept orderly at
+    → AllByRecursion (IsTimedIn (frames ++ frame ∷ [])) (found ++ map (timed_by frame) here)
+more frames found here frame h orderly numbered =
+    each-append (IsTimedIn (frames ++ frame ∷ [])) found (map (timed_by frame) here) (past frames found frame h)
+    (timed-here frames frame (orderly-below 0 frames frame orderly) here numbered)
+
+-- what is found without its frame is what was said
+said-alone : (frame : Frame) (said : List Finding) → map finding_in (map (timed_by frame) said) ≡ said
+said-alone frame [] = refl
+said-alone frame (one ∷ said) = ap (λ (l : List Finding). one ∷ l) (said-alone frame said)
+
+found-more : (frame : Frame) (said : List Finding) (old new : FoundPass) → IsAdded frame said old new
+    → map finding_in new.found.items ≡ map finding_in old.found.items ++ said
+found-more frame said old new added =
+    ap (map finding_in) added.found ∙ map-append finding_in old.found.items (map (timed_by frame) said)
+    ∙ ap (λ l. map finding_in old.found.items ++ l) (said-alone frame said)
 
 -- ---- one frame
 
@@ -250,7 +225,7 @@ stays {frames} {machine} frame stopped h orderly = record {
   shown = h.shown;
   goes_on = λ e. absurd (differ machine.has_stopped stopped e);
   stopped = h.stopped;
-  kept = λ _. past frame (h.kept (orderly-upto 0 frames (frame ∷ []) orderly));
+  timed = λ _. past frames machine.found.items frame (h.timed (orderly-upto 0 frames (frame ∷ []) orderly));
 }
   where
     differ : (b : Bool) → b ≡ true → b ≡ false → ⊥
@@ -270,18 +245,19 @@ module _ {frames : List Frame} {old : FoundPass} (frame : Frame) (h : IsFoundAft
   shown-here : (streams : List ℕ) (here : List Finding)
       → shown old.frames_shown (said streams (state_after h.met) frame) ≡ here
       → HaveAllMet (h.met ++ frame ∷ []) streams
-      → shown old.frames_shown (full_from streams pass_start (h.met ++ frame ∷ [])) ≡ old.found.items ++ here
+      → shown old.frames_shown (full_from streams pass_start (h.met ++ frame ∷ []))
+      ≡ map finding_in old.found.items ++ here
   shown-here streams here e name =
       ap (shown old.frames_shown) (full-more streams frame pass_start h.met)
       ∙ shown-append old.frames_shown (full_from streams pass_start h.met) (said streams (state_after h.met) frame)
       ∙ ap (λ l. l ++ shown old.frames_shown (said streams (state_after h.met) frame))
       (h.shown streams (have-front (frame ∷ []) name))
-      ∙ ap (λ l. old.found.items ++ l) e
+      ∙ ap (λ l. map finding_in old.found.items ++ l) e
 
   pub quiet-more : {new : FoundPass} → IsQuietStep (state_after h.met) frame new.pass → new.found ≡ old.found
-      → new.shown_at ≡ old.shown_at → new.has_stopped ≡ old.has_stopped → old.frames_shown ≡ false
-      → new.frames_shown ≡ old.frames_shown → IsFoundAfter (frames ++ frame ∷ []) new
-  quiet-more {new} step found shown_at stopped hidden same = record {
+      → new.has_stopped ≡ old.has_stopped → old.frames_shown ≡ false → new.frames_shown ≡ old.frames_shown
+      → IsFoundAfter (frames ++ frame ∷ []) new
+  quiet-more {new} step found stopped hidden same = record {
     met = h.met ++ frame ∷ [];
     rest = [];
     parts = whole;
@@ -291,41 +267,43 @@ module _ {frames : List Frame} {old : FoundPass} (frame : Frame) (h : IsFoundAft
         ∙ shown-here streams []
         (ap (λ (shows : Bool). shown shows (said streams (state_after h.met) frame)) hidden
         ∙ none-shown _ (step.shown streams name.named)) name
-        ∙ append-nil old.found.items ∙ ap (λ l. l.items) (sym found);
+        ∙ append-nil (map finding_in old.found.items)
+        ∙ ap (λ (l : Vec TimedFinding Global). map finding_in l.items) (sym found);
     goes_on = λ e. (refl, rw (state-more frame pass_start h.met) step.stands);
     stopped = λ e. rw found (h.stopped (sym stopped ∙ e));
-    kept = λ _. rw (found, shown_at) (past frame (h.kept (orderly-upto 0 frames (frame ∷ []) orderly)));
+    timed = λ _. rw found (past frames old.found.items frame (h.timed (orderly-upto 0 frames (frame ∷ []) orderly)));
   }
 
   pub said-more : {new : FoundPass} (here : List Finding)
       → IsSaidStep old.frames_shown (state_after h.met) frame here new.pass
       → IsAdded frame here old new → IsFoundAfter (frames ++ frame ∷ []) new
-  said-more here step added = record {
+  said-more {new} here step added = record {
     met = h.met ++ frame ∷ [];
     rest = [];
     parts = whole;
     little = all-little;
     shown = λ streams name.
         ap (λ (shows : Bool). shown shows (full_from streams pass_start (h.met ++ frame ∷ []))) added.same
-        ∙ shown-here streams here (step.shown streams (have-own h.met name)) name ∙ sym added.found;
+        ∙ shown-here streams here (step.shown streams (have-own h.met name)) name
+        ∙ sym (found-more frame here old new added);
     goes_on = λ e. (refl, rw (state-more frame pass_start h.met) (step.goes_on (sym added.stopped ∙ e)));
-    stopped = λ e. rw added.found (any-back stops old.found.items here (sym added.stopped ∙ e));
-    kept = λ _. rw (added.found, added.shown_at)
-        (found-more here frame (h.kept (orderly-upto 0 frames (frame ∷ []) orderly)) orderly step.numbered);
+    stopped = λ e. rw (found-more frame here old new added)
+        (any-back stops (map finding_in old.found.items) here (sym added.stopped ∙ e));
+    timed = λ _. rw added.found
+        (more frames old.found.items here frame (h.timed (orderly-upto 0 frames (frame ∷ []) orderly)) orderly
+        step.numbered);
   }
 
 -- the same of what the code says, whose machine did not meet the frame quietly just before
 pub said-after : (frame : Frame) (old mid new : FoundPass) → old.has_stopped ≡ false → MovesLittle frame
-    → mid.pass ≡ old.pass → HasSaid frame mid new → mid.found ≡ old.found → mid.shown_at ≡ old.shown_at
-    → mid.frames_shown ≡ old.frames_shown
+    → mid.pass ≡ old.pass → HasSaid frame mid new → mid.found ≡ old.found → mid.frames_shown ≡ old.frames_shown
     → (frames : List Frame) → IsFoundAfter frames old → IsOrderly (frames ++ frame ∷ [])
     → IsFoundAfter (frames ++ frame ∷ []) new
-said-after frame old mid new on small left has found shown_at same frames before orderly =
+said-after frame old mid new on small left has found same frames before orderly =
     said-more frame before on small orderly has.said
     (rw same at (has.step (state_after before.met) (rw left (before.goes_on on).1)))
     (record {
       found = rw (← found) has.added.found;
-      shown_at = rw (← shown_at) has.added.shown_at;
       stopped = has.added.stopped;
       same = has.added.same ∙ same;
     })
@@ -356,12 +334,35 @@ upto-some : (found rest : List Finding) → found ≢ [] → upto_stop (found ++
 upto-some [] rest some e = some refl
 upto-some (one ∷ found) rest some e = grind (arith, e)
 
+some-mapped : {A B : Type 0} (f : A → B) (xs : List A) → xs ≢ [] → map f xs ≢ []
+some-mapped f [] some e = some refl
+some-mapped f (x ∷ xs) some e = absurd cc
+
+-- a finding that has the record and the time of its frame is that of its frame
+timed-same : (frames : List Frame) (one : TimedFinding) → IsTimedIn frames one → timed frames (finding_in one) ≡ one
+timed-same frames one h = rw (h.there, ← h.rec, ← h.nanos) refl
+
+upto-timed : (frames : List Frame) (found : List TimedFinding) → AllByRecursion (IsTimedIn frames) found
+    → take (length (upto_stop (map finding_in found))) found ≡ map (timed frames) (upto_stop (map finding_in found))
+upto-timed frames [] each = refl
+upto-timed frames (one ∷ found) each = either (stops (finding_in one)) (upto-timed frames found each.1) where
+  either : (b : Bool)
+      → take (length (upto_stop (map finding_in found))) found ≡ map (timed frames) (upto_stop (map finding_in found))
+      → take (length (if b then finding_in one ∷ [] else finding_in one ∷ upto_stop (map finding_in found)))
+      (one ∷ found)
+      ≡ map (timed frames) (if b then finding_in one ∷ [] else finding_in one ∷ upto_stop (map finding_in found))
+  either true rest = ap (λ (x : TimedFinding). x ∷ []) (sym (timed-same frames one each.0))
+  either false rest =
+      ap (λ (l : List TimedFinding). one ∷ l) rest
+      ∙ ap (λ (x : TimedFinding). x ∷ map (timed frames) (upto_stop (map finding_in found)))
+      (sym (timed-same frames one each.0))
+
 module _ (met : StreamsAreThoseMet) (once : StreamsAreNamedOnce) {frames : List Frame} {machine : FoundPass}
     (h : IsFoundAfter frames machine) where
   -- what all frames show, of which the machine met the first ones
   some-shown : (later whole : List Frame) → whole ≡ frames ++ later
       → shown machine.frames_shown (full_from (streams_of whole) pass_start whole)
-      ≡ machine.found.items
+      ≡ map finding_in machine.found.items
       ++ shown machine.frames_shown (full_from (streams_of whole) (state_after h.met) (h.rest ++ later))
   some-shown later whole parts =
       let all = parts ∙ ap (λ (l : List Frame). l ++ later) h.parts ∙ append_assoc h.met h.rest later in
@@ -381,41 +382,42 @@ module _ (met : StreamsAreThoseMet) (once : StreamsAreNamedOnce) {frames : List 
       subst (λ (l : List Finding). l ≢ [])
       (ap upto_stop (sym (some-shown later whole parts))
       ∙ upto_stop-shown machine.frames_shown (full_from (streams_of whole) pass_start whole))
-      (upto-some machine.found.items
-      (shown machine.frames_shown (full_from (streams_of whole) (state_after h.met) (h.rest ++ later))) some)
+      (upto-some (map finding_in machine.found.items)
+      (shown machine.frames_shown (full_from (streams_of whole) (state_after h.met) (h.rest ++ later)))
+      (some-mapped finding_in machine.found.items some))
 
   past-shown : List Finding
   past-shown = shown machine.frames_shown (full_from (streams_of frames) (state_after h.met) h.rest)
 
   all-shown : shown machine.frames_shown (full_from (streams_of frames) pass_start frames)
-      ≡ machine.found.items ++ past-shown
+      ≡ map finding_in machine.found.items ++ past-shown
   unfolding past-shown
   all-shown =
       some-shown [] frames (sym (append-nil frames))
-      ∙ ap (λ l. machine.found.items
+      ∙ ap (λ l. map finding_in machine.found.items
       ++ shown machine.frames_shown (full_from (streams_of frames) (state_after h.met) l)) (append-nil h.rest)
 
   upto-met : (stopped : Bool) → machine.has_stopped ≡ stopped
-      → upto_stop machine.found.items ≡ upto_stop (machine.found.items ++ past-shown)
+      → upto_stop (map finding_in machine.found.items)
+      ≡ upto_stop (map finding_in machine.found.items ++ past-shown)
   unfolding past-shown
-  upto-met true e = sym (upto-past machine.found.items past-shown (h.stopped e))
+  upto-met true e = sym (upto-past (map finding_in machine.found.items) past-shown (h.stopped e))
   upto-met false e =
-      ap upto_stop (sym (append-nil machine.found.items)
-      ∙ ap (λ l. machine.found.items
+      ap upto_stop (sym (append-nil (map finding_in machine.found.items))
+      ∙ ap (λ l. map finding_in machine.found.items
       ++ shown machine.frames_shown (full_from (streams_of frames) (state_after h.met) l))
       (sym (h.goes_on e).0))
 
-  pub all-found : upto_stop machine.found.items ≡ shown machine.frames_shown (pass frames)
+  pub all-found : upto_stop (map finding_in machine.found.items) ≡ shown machine.frames_shown (pass frames)
   all-found =
       upto-met machine.has_stopped refl ∙ ap upto_stop (sym all-shown)
       ∙ upto_stop-shown machine.frames_shown (full_from (streams_of frames) pass_start frames)
 
-  pub all-named : IsOrderly frames
-      → AllByRecursion (IsNamedAlike frames machine.shown_at.items) (upto_stop machine.found.items)
-  all-named orderly =
-      each-upto (IsNamedAlike frames machine.shown_at.items) machine.found.items
-      (each-weaker (IsFrameKept frames machine.shown_at.items) (IsNamedAlike frames machine.shown_at.items)
-      (λ finding kept. kept.alike) machine.found.items (h.kept orderly).each)
+  pub all-timed : IsOrderly frames
+      → take (length (upto_stop (map finding_in machine.found.items))) machine.found.items
+      ≡ map (timed frames) (shown machine.frames_shown (pass frames))
+  all-timed orderly =
+      upto-timed frames machine.found.items (h.timed orderly) ∙ ap (map (timed frames)) all-found
 
 -- where credits are shown, all findings are
 pub all-findings : (found : List Finding) → shown true found ≡ found

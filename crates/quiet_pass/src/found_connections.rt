@@ -12,7 +12,7 @@ ghost use Rattle.tcp_streams.specs.declared.flows.Flow.{Flow};
 
 use crate::found_passes::FoundPass;
 use audit_terms::laws::streams_are_those_met;
-use audit_terms::{Finding, Frame, Sides, cut_at_stop};
+use audit_terms::{Frame, Sides, TimedFinding, cut_timed_at_stop};
 use std::alloc::{AllocError, Global};
 
 /// What is shown of a connection of HTTP/2.
@@ -23,9 +23,7 @@ pub struct FoundConnection {
     /// How many bytes each side's flow has after its last frame.
     pub tails: Sides<u32>,
     /// What is shown, in order, up to and including the first connection error.
-    pub findings: Vec<Finding>,
-    /// Frames in the order of the capture, among them each that a finding names.
-    pub shown_at: Vec<Frame>,
+    pub findings: Vec<TimedFinding>,
 }
 
 /// A front has one in so many frames of its connection. Where it shows something and no end, only so small a part is
@@ -38,8 +36,8 @@ const FRAMES_PER_FRONT_FRAME: usize = 32;
 /// What these frames of a connection show, where credits are shown or are not, if that is nothing, if they are no more
 /// than so many, or if the audit ends within the first thirty-second of them (RFC 9113, 5.4.1).
 ///
-/// They are met by a machine that keeps those alone at which something is shown. Where they are more than so many, and
-/// something is shown before the last of them but no end in that front, there is no answer.
+/// They are met by a machine that keeps none of them. Where they are more than so many, and something is shown before
+/// the last of them but no end in that front, there is no answer.
 pub fn found_in(
     alloc: Global,
     frames_shown: bool,
@@ -86,11 +84,10 @@ pub(crate) fn found_after(pass: FoundPass, frames: u32, tails: Sides<u32>) -> Fo
 {
     streams_are_those_met();
     let mut findings = pass.found;
-    cut_at_stop(&mut findings);
+    cut_timed_at_stop(&mut findings);
     FoundConnection {
         frames,
         tails,
         findings,
-        shown_at: pass.shown_at,
     }
 }

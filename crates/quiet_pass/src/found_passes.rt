@@ -13,9 +13,8 @@ ghost use Rattle.quiet_pass.specs.declared.passes.QuietPass.{QuietPass as PassTe
 use crate::passes::{QuietPass, is_of_settings};
 use crate::quiet_frames::moves_little;
 use crate::said_frames::has_stop;
-use audit_terms::{Change, Finding, Frame};
+use audit_terms::{Change, Finding, Frame, TimedFinding};
 use std::alloc::{AllocError, Global};
-use std::slice;
 
 /// A connection between two of its frames, with what they show.
 #[derive(Drop)]
@@ -24,9 +23,7 @@ pub(crate) struct FoundPass {
     pub(crate) frames_shown: bool,
     pass: QuietPass,
     /// What was shown so far, in order.
-    pub(crate) found: Vec<Finding>,
-    /// The frames at which something was shown.
-    pub(crate) shown_at: Vec<Frame>,
+    pub(crate) found: Vec<TimedFinding>,
     /// Did the audit stop? Then nothing more is shown.
     has_stopped: bool,
 }
@@ -41,7 +38,6 @@ impl FoundPass {
             frames_shown,
             pass: QuietPass::begin(alloc),
             found: Vec::new(alloc),
-            shown_at: Vec::new(alloc),
             has_stopped: false,
         }
     }
@@ -107,7 +103,7 @@ impl FoundPass {
         let said = self
             .pass
             .say_settings(alloc, self.frames_shown, frame, &change)?;
-        self.add(said, frame)?;
+        self.add(said.as_slice(), frame)?;
         Ok(())
     }
 
@@ -178,22 +174,19 @@ impl FoundPass {
         ensures { OnOk result (HasSaid frame.now self.old self.new) }
     {
         let said = self.pass.say(alloc, self.frames_shown, frame)?;
-        self.add(said, frame)?;
+        self.add(said.as_slice(), frame)?;
         Ok(())
     }
 
     /// Adds what a frame shows.
-    fn add(&mut self, said: Vec<Finding>, frame: &Frame) -> Result<(), AllocError>
-        ensures added { OnOk result (IsAdded frame.now said.items self.old self.new) }
+    fn add(&mut self, said: &[Finding], frame: &Frame) -> Result<(), AllocError>
+        ensures added { OnOk result (IsAdded frame.now said.now self.old self.new) }
         ensures pass { OnOk result (self.new.pass ≡ self.old.pass) }
     {
-        let mut said = said;
-        self.has_stopped = has_stop(said.as_slice());
-        if said.is_empty() {
-            return Ok(());
+        self.has_stopped = has_stop(said);
+        for one in said {
+            self.found.push(TimedFinding::of(one, frame))?;
         }
-        self.found.append(&mut said)?;
-        self.shown_at.extend_from_slice(slice::from_ref(frame))?;
         Ok(())
     }
 }

@@ -1,8 +1,7 @@
-//! A machine that meets a connection's frames one by one, in capture order, and keeps those alone at which something is
-//! shown: most connections show little, where credits are not shown. [`found_in`] has it meet a list of frames, and
-//! returns their number, how many bytes are left over, the findings, and the frames that they name
-//! ([`FoundConnection`]). A connection of which nothing is shown is a [`QuietConnection`]. [`one_pass`] gives all that
-//! the machine says of a list.
+//! A machine that meets a connection's frames one by one, in capture order, and keeps none: of those at which something
+//! is shown, each finding has the record and the time. [`found_in`] has it meet a list of frames, and returns their
+//! number, how many bytes are left over, and the findings ([`FoundConnection`]). A connection of which nothing is shown
+//! is a [`QuietConnection`]. [`one_pass`] gives all that the machine says of a list.
 //!
 //! - The machine follows the pass of `audit_terms`, which steps from state to state. What it has said of the frames so
 //!   far is what is shown of them, and it stands for the state after them (`IsFoundAfter`). Most frames are met

@@ -5,18 +5,21 @@ use Rattle.std.proofs.lemmas.Grind.{flat_map-append}
 use Rattle.std.proofs.lemmas.List.Folds.{concat-append}
 use Rattle.std.specs.{Global.Global, List.concat, List.flat_map}
 use Rattle.audit_report.specs.EndLine.{end_line}
-use Rattle.audit_report.specs.FindingLine.{finding_lines, shown_line}
+use Rattle.audit_report.specs.FindingLine.{finding_lines, shown_line, timed_shown_line}
+use Rattle.audit_report.specs.code.Findings.{timed_lines}
 use Rattle.audit_report.specs.StallLine.{stall_line, stall_lines}
 use Rattle.audit_report.specs.code.Contents.{opening_text}
 use Rattle.audit_report.specs.declared.headings.SectionHeading.{SectionHeading}
+use Rattle.audit_terms.specs.code.TimedFindings.{finding_in}
 use Rattle.audit_terms.specs.declared.{findings.Finding.Finding, frames.Frame.Frame}
 use Rattle.report_pages.proofs.Pieces.{joined-map}
-use Rattle.report_pages.specs.code.Entries.{Entries, audited_stretches, entries_in, listed, outcome_stretches}
-use Rattle.report_pages.specs.code.Entries.{section_stretches, told_stretches}
+use Rattle.report_pages.specs.code.Entries.{Entries, audited_stretches, entries_in, found_stretches, listed}
+use Rattle.report_pages.specs.code.Entries.{outcome_stretches, section_stretches, told_stretches}
 use Rattle.report_pages.specs.code.Reach.{extents_in}
-use Rattle.report_pages.specs.code.Sections.{audited_text, outcome_text, section_text, told_text}
+use Rattle.report_pages.specs.code.Sections.{audited_text, found_text, outcome_text, section_text, told_text}
 use Rattle.report_pages.specs.code.Told.{contents_in}
 use Rattle.report_pages.specs.declared.told.AuditedFrames.{AuditedFrames}
+use Rattle.report_pages.specs.declared.told.FoundFrames.{FoundFrames}
 use Rattle.report_pages.specs.declared.told.Outcome.{Outcome}
 use Rattle.report_pages.specs.declared.told.Outcome.TheVariants.{Audited, Found, Quiet}
 use Rattle.report_pages.specs.declared.told.Outcome.TheVariants.{NotHttp2, NoPreface, NoHandshake}
@@ -61,10 +64,22 @@ text-audited shown audited =
     ∙ sym (append_assoc (finding_lines shown audited.frames.items (findings_in audited.findings))
     (stall_lines audited.stalls.items) end)
 
+text-found : (shown : Bool) (found : FoundFrames) → text-of (found_stretches shown found) ≡ found_text shown found
+text-found shown found =
+    let findings : Entries = map (timed_shown_line shown) found.findings.items in
+    let stalls : Entries = map stall_line found.stalls.items in
+    let end : List ℕ = end_line (map finding_in found.findings.items) in
+    text-more findings (stalls ∷ (end ∷ []) ∷ [])
+    ∙ ap (λ l. l ++ text-of (stalls ∷ (end ∷ []) ∷ [])) (joined-map (timed_shown_line shown) found.findings.items)
+    ∙ ap (λ l. timed_lines shown found.findings.items ++ l)
+    (text-more stalls ((end ∷ []) ∷ []) ∙ ap (λ l. l ++ (end ++ [])) (joined-map stall_line found.stalls.items)
+    ∙ ap (λ l. stall_lines found.stalls.items ++ l) (append-nil end))
+    ∙ sym (append_assoc (timed_lines shown found.findings.items) (stall_lines found.stalls.items) end)
+
 text-outcome : (shown : Bool) (outcome : Outcome) → text-of (outcome_stretches shown outcome)
     ≡ outcome_text shown outcome
 text-outcome shown (Quiet quiet) = append-nil (end_line [])
-text-outcome shown (Found found) = text-audited shown found.value.audited
+text-outcome shown (Found found) = text-found shown found.value
 text-outcome shown (Audited audited) = text-audited shown audited.value
 text-outcome shown NotHttp2 = refl
 text-outcome shown NoPreface = refl

@@ -4,9 +4,9 @@
 //!   connections, `told_text` of `specs/code/Sections.antt`. Only the lines, what the sections tell, and the pages are
 //!   in memory. [`Report::into_bytes`] alone makes the text whole.
 //! - What is [`Told`] of a connection is small: how far its flows reach ([`Reach`]), and its [`Outcome`], which has
-//!   frames and findings ([`AuditedFrames`]) only where something may be shown. Where it was found as the frames were
-//!   met, these are the frames that the findings name ([`FoundFrames`]). It stands for an audit, of which it has all
-//!   that a report tells (`AreToldOf` of `specs/code/Told.antt`).
+//!   findings only where something is shown. Where these were found as the frames were met, each has the record and the
+//!   time of its frame, and no frame is kept ([`FoundFrames`]); else all frames are ([`AuditedFrames`]). It stands for
+//!   an audit, of which it has all that a report tells (`AreToldOf` of `specs/code/Told.antt`).
 //! - The sections are a sequence of entries: the opening of a section, with its three lines, or one line of a finding,
 //!   of a stall or of the end of an audit; the line of a credit that is not shown is an empty entry. Entries of one
 //!   kind that follow each other make a stretch (`specs/code/Entries.antt`). A cursor points at an entry, and skips
@@ -19,8 +19,8 @@
 //!   one that failed (`specs/code/Written.antt`; `input_output` has the calls). This holds for every writer. Each write
 //!   is offered all that is left of a page, or of the lines on the capture.
 //! - Refused by the prover: a page of which a write took a part and that is then left, the next connection under the
-//!   number of the last, a page that begins an entry further, a flush after a failed write, as many frames as are kept
-//!   where more were met.
+//!   number of the last, a page that begins an entry further, a flush after a failed write, as many frames as there are
+//!   findings.
 //! - Tested: in `crate_tests` which calls writers get, and that several workers write what one does; by whole reports
 //!   that the calls succeed where there is memory.
 #![tactic(auto)]

@@ -34,7 +34,11 @@ fn count_entries(told: &[Told]) -> usize {
 fn count_of(outcome: &Outcome) -> usize {
     match outcome {
         Outcome::Quiet(_) => 2,
-        Outcome::Found(found) => count_in(&found.audited),
+        Outcome::Found(found) => found
+            .stalls
+            .len()
+            .saturating_add(found.findings.len())
+            .saturating_add(2),
         Outcome::Audited(audited) => count_in(audited),
         _ => 1,
     }

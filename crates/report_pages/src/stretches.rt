@@ -2,24 +2,26 @@
 //! of a finding, of a stall or of the end of an audit. Those of one kind that follow each other make a stretch.
 
 ghost use Rattle.std.specs.Prelude.{◌≡◌, ◌<◌, ◌≤◌, ◌+◌, ◌-◌, ◌∷◌, ◌++◌, [], ℕ, Bool, List, drop, length, slice_get};
-ghost use Rattle.std.specs.Prelude.{slice_index_or, take};
+ghost use Rattle.std.specs.Prelude.{map, slice_index_or, take};
 ghost use Rattle.std.specs.List.{concat, flat_map};
 ghost use Rattle.audit_report.specs.code.Pages.{Adds, HasRoom};
+ghost use Rattle.audit_terms.specs.code.TimedFindings.{finding_in};
 ghost use Rattle.audit_terms.specs.code.runs.Orderly.{IsOrderly};
 ghost use Rattle.audit_terms.specs.declared.findings.Finding.{Finding as FindingTerm};
 ghost use Rattle.report_pages.specs.code.Entries.{IsOrderlyStretch, IsPiece, audited_stretches};
-ghost use Rattle.report_pages.specs.code.Entries.{entries_of, section_stretches};
-ghost use Rattle.audit_report.specs.EndLine.{end_line};
+ghost use Rattle.report_pages.specs.code.Entries.{entries_of, found_stretches, section_stretches};
+ghost use Rattle.audit_report.specs.EndLine.{end_line_after};
 ghost use Rattle.audit_report.specs.code.Contents.{opening_text};
 ghost use Rattle.report_pages.specs.code.Reach.{extents_in};
 ghost use Rattle.report_pages.specs.code.Told.{HasOrderlyOutcome, contents_in};
 
 use crate::reach::Reach;
-use crate::told::{AuditedFrames, Outcome, Told, contents_in};
+use crate::told::{AuditedFrames, FoundFrames, Outcome, Told, contents_in};
 use audit_report::{
     SectionHeading, Stall, add_end_line, add_finding_lines, add_opening, add_stall_lines,
+    add_timed_lines,
 };
-use audit_terms::{Finding, Frame};
+use audit_terms::{Finding, Frame, TimedFinding};
 
 /// Entries of one kind that follow each other.
 #[derive(Clone, Copy)]
@@ -28,10 +30,14 @@ pub(crate) enum Stretch<'a> {
     Opening(u64, &'a SectionHeading, &'a Told),
     /// A line for each of these findings in these frames, if it is shown.
     Findings(&'a [Finding], &'a [Frame]),
+    /// A line for each of these findings, if it is shown.
+    Timed(&'a [TimedFinding]),
     /// A line for each stall.
     Stalls(&'a [Stall]),
     /// The line on the end of an audit with these findings, list after list.
     End(&'a [Vec<Finding>]),
+    /// The line on the end of an audit with these findings.
+    TimedEnd(&'a [TimedFinding]),
 }
 
 impl Stretch<'_> {
@@ -41,6 +47,7 @@ impl Stretch<'_> {
     {
         match self {
             Stretch::Findings(findings, _) => findings.len(),
+            Stretch::Timed(findings) => findings.len(),
             Stretch::Stalls(stalls) => stalls.len(),
             _ => 1,
         }
@@ -54,7 +61,7 @@ pub(crate) fn count_stretches(told: &Told) -> usize
 {
     match &told.outcome {
         Outcome::Quiet(_) => 2,
-        Outcome::Found(found) => count_with(&found.audited),
+        Outcome::Found(_) => 4,
         Outcome::Audited(audited) => count_with(audited),
         _ => 1,
     }
@@ -85,10 +92,32 @@ pub(crate) fn stretch_of<'a>(
         return Stretch::Opening(k, heading, told);
     }
     match &told.outcome {
-        Outcome::Found(found) => audited_stretch(&found.audited, index - 1),
+        Outcome::Found(found) => found_stretch(found, index - 1),
         Outcome::Audited(audited) => audited_stretch(audited, index - 1),
         _ => Stretch::End(&[]),
     }
+}
+
+/// One stretch behind the opening of a section of HTTP/2 of which this was found.
+fn found_stretch(found: &FoundFrames, index: usize) -> Stretch<'_>
+    requires within { (frames_shown : Bool) → index < length (found_stretches frames_shown found.now) }
+    ensures entries { (frames_shown : Bool) → entries_of frames_shown result
+        ≡ slice_index_or (found_stretches frames_shown found.now) index (entries_of frames_shown result) }
+    ensures orderly { IsOrderlyStretch result }
+{
+    match index {
+        0 => Stretch::Timed(found.findings.as_slice()),
+        1 => Stretch::Stalls(found.stalls.as_slice()),
+        _ => Stretch::TimedEnd(found.findings.as_slice()),
+    }
+}
+
+/// The last of these findings.
+fn last_found(findings: &[TimedFinding]) -> Option<Finding>
+    ensures { result ≡ slice_get (map finding_in findings.now) (length (map finding_in findings.now) - 1) }
+{
+    let last = findings.last()?;
+    Some(last.finding())
 }
 
 /// One stretch behind the opening of a section of HTTP/2.
@@ -159,11 +188,13 @@ pub(crate) fn add_piece(
         Stretch::Findings(findings, frames) => {
             add_finding_lines(page, &findings[from..to], frames, frames_shown);
         }
+        Stretch::Timed(findings) => add_timed_lines(page, &findings[from..to], frames_shown),
         Stretch::Stalls(stalls) => add_stall_lines(page, &stalls[from..to]),
         Stretch::Opening(k, heading, told) => {
             add_opening_from(page, k, heading, told, from, to);
         }
-        Stretch::End(lists) => add_end_from(page, lists, from, to),
+        Stretch::End(lists) => add_end_from(page, last_of(lists), from, to),
+        Stretch::TimedEnd(findings) => add_end_from(page, last_found(findings), from, to),
     }
 }
 
@@ -191,14 +222,14 @@ fn add_opening_from(
 }
 
 /// Appends the line on the end of an audit, if it is among the entries from one index up to another.
-fn add_end_from(page: &mut Vec<u8>, lists: &[Vec<Finding>], from: usize, to: usize)
+fn add_end_from(page: &mut Vec<u8>, last: Option<Finding>, from: usize, to: usize)
     requires within { (from ≤ to) × (to ≤ 1) }
     requires room { HasRoom (to - from) page.old }
-    ensures { Adds (to - from) (concat (take (to - from) (drop from
-        (end_line (flat_map (λ list. list.items) lists.now) ∷ [])))) page.old page.new }
+    ensures { Adds (to - from) (concat (take (to - from) (drop from (end_line_after last ∷ []))))
+        page.old page.new }
 {
     if from == to {
         return;
     }
-    add_end_line(page, last_of(lists));
+    add_end_line(page, last);
 }

@@ -5,7 +5,7 @@ ghost use Rattle.report_pages.specs.code.Told.{contents_in};
 
 use crate::reach::Reach;
 use audit_report::{Contents, Stall};
-use audit_terms::{Frame, Sides};
+use audit_terms::{Frame, Sides, TimedFinding};
 use quiet_pass::QuietConnection;
 use split_merge::Findings;
 
@@ -27,8 +27,12 @@ pub struct AuditedFrames {
 pub struct FoundFrames {
     /// How many frames the two sides sent together.
     pub count: u32,
-    /// What was found, and of the frames those at which something is shown.
-    pub audited: AuditedFrames,
+    /// How many bytes each side's flow has after its last frame.
+    pub tails: Sides<u32>,
+    /// What was found, in order.
+    pub findings: Vec<TimedFinding>,
+    /// The stalls that the findings tell of.
+    pub stalls: Vec<Stall>,
 }
 
 /// What came of the two flows of a connection. Most captures have many connections, of which few have frames that are
@@ -72,7 +76,7 @@ pub(crate) fn contents_in(outcome: &Outcome) -> Contents
         },
         Outcome::Found(found) => Contents::Http2 {
             frames: found.count as u64,
-            tails: found.audited.tails,
+            tails: found.tails,
         },
         Outcome::Audited(audited) => Contents::Http2 {
             frames: audited.frames.len() as u64,

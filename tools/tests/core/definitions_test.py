@@ -55,7 +55,7 @@ CHANGES = [
     ("h2_frames/specs/CaptureOrder.antt", "nat_lt y.frame.rec x.frame.rec", "nat_lt x.frame.rec y.frame.rec"),
     ("audit_terms/specs/Window.antt", "int_le credit (pos 0)", "int_lt credit (pos 0)"),
     ("audit_terms/specs/Finding.antt", "if stops x then x ∷ []", "if stops x then []"),
-    ("audit_report/specs/Stalls.antt", "then stall_of frames found", "then stall_of []  found"),
+    ("audit_report/specs/Stalls.antt", "map (timed frames) findings", "map (timed []) findings"),
     ("audit_report/specs/EndLine.antt", "slice_get findings (length findings - 1)", "slice_get findings 0"),
 ]
 

@@ -2,7 +2,7 @@
 use Rattle.std.specs.List.{AllZip, range_with_len}
 use Rattle.std.specs.Prelude.{◌≡◌, ℕ, ◌^◌, ◌<◌, Bool, List, [], length, map, All, IfSome, IsTrue, Option}
 use Rattle.audit_report.specs.FlowLine.{extents_of}
-use Rattle.audit_report.specs.Stalls.{stalls}
+use Rattle.audit_report.specs.Stalls.{timed_stalls}
 use Rattle.audit_report.specs.declared.audited.Audited.{Audited}
 use Rattle.audit_terms.specs.code.runs.Orderly as runs
 use Rattle.audit_terms.specs.declared.sides.Side.TheVariants.{Client, Server}
@@ -22,7 +22,6 @@ use Rattle.report_pages.specs.declared.told.Told.{Told}
 use Rattle.quiet_pass.specs.code.FoundConnections.{IsFoundOf}
 use Rattle.quiet_pass.specs.code.QuietConnections.{IsQuietOf}
 use Rattle.quiet_pass.specs.declared.found_connections.FoundConnection.{FoundConnection}
-use Rattle.split_merge.specs.code.Findings.{findings_in}
 use Rattle.stop_desk.specs.code.Board.{Job}
 use Rattle.stop_desk.specs.declared.parts.Part.{Part}
 use Rattle.packet_heads.specs.declared.packets.Packet.{Packet}
@@ -41,10 +40,9 @@ KeepsCut _ _ = ⊥
 -- this is what was found as frames were met, with its stalls
 pub record AreFramesOf (made : FoundFrames) (found : FoundConnection) : Type 0 where
   pub count : made.count ≡ found.frames
-  pub tails : made.audited.tails ≡ found.tails
-  pub findings : findings_in made.audited.findings ≡ found.findings.items
-  pub frames : made.audited.frames.items ≡ found.shown_at.items
-  pub stalls_are : made.audited.stalls.items ≡ stalls found.shown_at.items found.findings.items
+  pub tails : made.tails ≡ found.tails
+  pub findings : made.findings ≡ found.findings
+  pub stalls_are : made.stalls.items ≡ timed_stalls found.findings.items
 
 -- what an outcome keeps of it
 abbrev pub KeepsFound : Outcome → FoundConnection → Type 0

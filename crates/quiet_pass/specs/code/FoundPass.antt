@@ -1,16 +1,18 @@
 -- What the machine stands for that says what frames show.
 use Rattle.std.specs.List.{AllByRecursion, IsDistinct, list_any}
-use Rattle.std.specs.Prelude.{◌≡◌, ◌≢◌, ℕ, ◌<◌, ◌==◌, true, false, List, [], ◌∷◌, ◌++◌, find, is_some, length, take}
+use Rattle.std.specs.Prelude.{◌≡◌, ◌≢◌, ℕ, ◌<◌, ◌==◌, true, false, List, [], ◌++◌, length, map, Some, take}
 use Rattle.audit_terms.specs.Finding.{shown, stops}
 use Rattle.audit_terms.specs.Frame.{meets}
 use Rattle.audit_terms.specs.Pass.{PassState, full_from, pass_start}
 use Rattle.audit_terms.specs.Place.{place_number}
+use Rattle.audit_terms.specs.Timed.{frame_numbered}
+use Rattle.audit_terms.specs.code.TimedFindings.{finding_in, timed_by}
 use Rattle.audit_terms.specs.code.runs.Orderly.{IsOrderly}
 use Rattle.audit_terms.specs.code.runs.States.{state_after}
 use Rattle.audit_terms.specs.declared.findings.Finding.{Finding}
 use Rattle.audit_terms.specs.declared.frames.Frame.{Frame}
+use Rattle.audit_terms.specs.declared.timed_findings.TimedFinding.{TimedFinding}
 use Rattle.quiet_pass.specs.code.QuietPass.{AreNamed, MovesLittle, StandsFor}
-use Rattle.quiet_pass.specs.code.FoundConnections.{IsNamedAlike}
 use Rattle.quiet_pass.specs.code.SaidFrames.{IsSaidStep}
 use Rattle.quiet_pass.specs.declared.found_passes.FoundPass.{FoundPass}
 
@@ -25,16 +27,12 @@ pub record HaveAllMet (frames : List Frame) (streams : List ℕ) : Type 0 where
 abbrev pub AreBelow : (number : ℕ) → List Frame → Type 0
 AreBelow number frames = AllByRecursion (λ (frame : Frame). frame.number < number) frames
 
--- the frame that a finding names is kept: it is one of some, the same as in all
-pub record IsFrameKept (all some : List Frame) (finding : Finding) : Type 0 where
-  pub alike : IsNamedAlike all some finding
-  pub there : is_some (find (λ (frame : Frame). frame.number == place_number finding.place) some) ≡ true
-
--- the frames that these findings name are kept
-pub record AreFramesKept (all some : List Frame) (found : List Finding) : Type 0 where
-  pub each : AllByRecursion (IsFrameKept all some) found
-  pub orderly : IsOrderly some
-  pub below : (number : ℕ) → AreBelow number all → AreBelow number some
+-- the finding has the record and the time of its frame, which is among these
+pub record IsTimedIn (frames : List Frame) (one : TimedFinding) : Type 0 where
+  pub frame : Frame
+  pub there : frame_numbered frames (place_number one.place) ≡ Some frame
+  pub rec : one.rec ≡ frame.rec
+  pub nanos : one.nanos ≡ frame.nanos
 
 -- of the frames so far the machine has said all that is shown, up to where the audit stopped
 pub record IsFoundAfter (frames : List Frame) (machine : FoundPass) : Type 0 where
@@ -43,20 +41,14 @@ pub record IsFoundAfter (frames : List Frame) (machine : FoundPass) : Type 0 whe
   pub parts : frames ≡ met ++ rest
   pub little : AllByRecursion MovesLittle met
   pub shown : (streams : List ℕ) → HaveAllMet met streams
-      → shown machine.frames_shown (full_from streams pass_start met) ≡ machine.found.items
+      → shown machine.frames_shown (full_from streams pass_start met) ≡ map finding_in machine.found.items
   pub goes_on : machine.has_stopped ≡ false → (rest ≡ []) × StandsFor machine.pass (state_after met)
-  pub stopped : machine.has_stopped ≡ true → list_any stops machine.found.items ≡ true
-  pub kept : IsOrderly frames → AreFramesKept frames machine.shown_at.items machine.found.items
-
--- the frames that findings name, with this one if it shows something
-abbrev pub named_with : Frame → (said : List Finding) → List Frame → List Frame
-named_with frame [] frames = frames
-named_with frame (_ ∷ _) frames = frames ++ frame ∷ []
+  pub stopped : machine.has_stopped ≡ true → list_any stops (map finding_in machine.found.items) ≡ true
+  pub timed : IsOrderly frames → AllByRecursion (IsTimedIn frames) machine.found.items
 
 -- what a frame shows was added
 pub record IsAdded (frame : Frame) (said : List Finding) (old new : FoundPass) : Type 0 where
-  pub found : new.found.items ≡ old.found.items ++ said
-  pub shown_at : new.shown_at.items ≡ named_with frame said old.shown_at.items
+  pub found : new.found.items ≡ old.found.items ++ map (timed_by frame) said
   pub stopped : new.has_stopped ≡ list_any stops said
   pub same : new.frames_shown ≡ old.frames_shown
 

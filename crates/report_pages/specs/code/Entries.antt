@@ -4,10 +4,11 @@ use Rattle.std.specs.List.{flat_map}
 use Rattle.std.specs.Prelude.{◌≡◌, ℕ, ◌+◌, ◌-◌, ◌<◌, ◌≤◌, Bool, List, [], ◌∷◌, ◌++◌, Vec, drop, length, map, take}
 use Rattle.std.specs.Prelude.{slice_index_or}
 use Rattle.audit_report.specs.EndLine.{end_line}
-use Rattle.audit_report.specs.FindingLine.{shown_line}
+use Rattle.audit_report.specs.FindingLine.{shown_line, timed_shown_line}
 use Rattle.audit_report.specs.StallLine.{stall_line}
 use Rattle.audit_report.specs.code.Contents.{opening_text}
 use Rattle.audit_report.specs.declared.headings.SectionHeading.{SectionHeading}
+use Rattle.audit_terms.specs.code.TimedFindings.{finding_in}
 use Rattle.audit_terms.specs.code.runs.Orderly.{IsOrderly}
 use Rattle.audit_terms.specs.declared.findings.Finding.{Finding}
 use Rattle.audit_terms.specs.declared.frames.Frame.{Frame}
@@ -17,8 +18,9 @@ use Rattle.report_pages.specs.code.Told.{contents_in}
 use Rattle.report_pages.specs.declared.cursors.Cursor.{Cursor}
 use Rattle.report_pages.specs.declared.stretches.Piece.{Piece}
 use Rattle.report_pages.specs.declared.stretches.Stretch.{Stretch}
-use Rattle.report_pages.specs.declared.stretches.Stretch.TheVariants.{Opening, Findings, Stalls, End}
+use Rattle.report_pages.specs.declared.stretches.Stretch.TheVariants.{Opening, Findings, Timed, Stalls, End, TimedEnd}
 use Rattle.report_pages.specs.declared.told.AuditedFrames.{AuditedFrames}
+use Rattle.report_pages.specs.declared.told.FoundFrames.{FoundFrames}
 use Rattle.report_pages.specs.declared.told.Outcome.{Outcome}
 use Rattle.report_pages.specs.declared.told.Outcome.TheVariants.{Audited, Found, Quiet}
 use Rattle.report_pages.specs.declared.told.Told.{Told}
@@ -33,8 +35,10 @@ abbrev pub entries_of : (frames_shown : Bool) → Stretch → Entries
 entries_of frames_shown (Opening k heading told) =
     opening_text k heading.now (extents_in told.now.reach) (contents_in told.now.outcome) ∷ []
 entries_of frames_shown (Findings findings frames) = map (shown_line frames_shown frames.now) findings.now
+entries_of frames_shown (Timed findings) = map (timed_shown_line frames_shown) findings.now
 entries_of frames_shown (Stalls stalls) = map stall_line stalls.now
 entries_of frames_shown (End lists) = end_line (flat_map (λ (list : Vec Finding Global). list.items) lists.now) ∷ []
+entries_of frames_shown (TimedEnd findings) = end_line (map finding_in findings.now) ∷ []
 
 -- its findings are of frames in order
 abbrev pub IsOrderlyStretch : Stretch → Type 0
@@ -54,9 +58,17 @@ audited_stretches frames_shown audited =
     ∷ (end_line (findings_in audited.findings) ∷ [])
     ∷ []
 
+-- the same, where findings have the record and the time of their frames
+abbrev pub found_stretches : (frames_shown : Bool) → FoundFrames → List Entries
+found_stretches frames_shown found =
+    map (timed_shown_line frames_shown) found.findings.items
+    ∷ map stall_line found.stalls.items
+    ∷ (end_line (map finding_in found.findings.items) ∷ [])
+    ∷ []
+
 abbrev pub outcome_stretches : (frames_shown : Bool) → Outcome → List Entries
 outcome_stretches frames_shown (Quiet quiet) = (end_line [] ∷ []) ∷ []
-outcome_stretches frames_shown (Found found) = audited_stretches frames_shown found.value.audited
+outcome_stretches frames_shown (Found found) = found_stretches frames_shown found.value
 outcome_stretches frames_shown (Audited audited) = audited_stretches frames_shown audited.value
 outcome_stretches frames_shown _ = []
 

@@ -1,13 +1,16 @@
 -- The sections of connections, by what is kept of these.
-use Rattle.std.specs.Prelude.{◌≡◌, ℕ, ◌+◌, ◌<◌, ◌^◌, Bool, List, [], ◌∷◌, ◌++◌, All, length}
+use Rattle.std.specs.Prelude.{◌≡◌, ℕ, ◌+◌, ◌<◌, ◌^◌, Bool, List, [], ◌∷◌, ◌++◌, All, length, map}
 use Rattle.audit_report.specs.EndLine.{end_line}
 use Rattle.audit_report.specs.FindingLine.{finding_lines}
+use Rattle.audit_report.specs.code.Findings.{timed_lines}
 use Rattle.audit_report.specs.StallLine.{stall_lines}
 use Rattle.audit_report.specs.code.Contents.{opening_text}
 use Rattle.audit_report.specs.declared.headings.SectionHeading.{SectionHeading}
+use Rattle.audit_terms.specs.code.TimedFindings.{finding_in}
 use Rattle.report_pages.specs.code.Reach.{extents_in}
 use Rattle.report_pages.specs.code.Told.{HasOrderlyOutcome, contents_in}
 use Rattle.report_pages.specs.declared.told.AuditedFrames.{AuditedFrames}
+use Rattle.report_pages.specs.declared.told.FoundFrames.{FoundFrames}
 use Rattle.report_pages.specs.declared.told.Outcome.{Outcome}
 use Rattle.report_pages.specs.declared.told.Outcome.TheVariants.{Audited, Found, Quiet}
 use Rattle.report_pages.specs.declared.told.Told.{Told}
@@ -20,9 +23,16 @@ audited_text frames_shown audited =
     ++ stall_lines audited.stalls.items
     ++ end_line (findings_in audited.findings)
 
+-- the same, where findings have the record and the time of their frames
+abbrev pub found_text : (frames_shown : Bool) → FoundFrames → List ℕ
+found_text frames_shown found =
+    timed_lines frames_shown found.findings.items
+    ++ stall_lines found.stalls.items
+    ++ end_line (map finding_in found.findings.items)
+
 abbrev pub outcome_text : (frames_shown : Bool) → Outcome → List ℕ
 outcome_text frames_shown (Quiet quiet) = end_line []
-outcome_text frames_shown (Found found) = audited_text frames_shown found.value.audited
+outcome_text frames_shown (Found found) = found_text frames_shown found.value
 outcome_text frames_shown (Audited audited) = audited_text frames_shown audited.value
 outcome_text frames_shown _ = []
 

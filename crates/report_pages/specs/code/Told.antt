@@ -1,15 +1,15 @@
 -- How what is kept of connections stands for their audits.
-use Rattle.std.specs.Prelude.{◌≡◌, List, [], length}
-use Rattle.std.specs.List.{AllByRecursion, AllZip}
+use Rattle.std.specs.Prelude.{◌≡◌, List, [], length, map}
+use Rattle.std.specs.List.{AllZip}
 use Rattle.audit_report.specs.Stalls.{stalls}
 use Rattle.audit_report.specs.declared.audited.Audited.{Audited}
 use Rattle.audit_report.specs.declared.contents.Contents.{Contents}
 use Rattle.audit_report.specs.declared.contents.Contents.TheVariants as contents
+use Rattle.audit_terms.specs.Timed.{timed}
 use Rattle.audit_terms.specs.declared.findings.Finding.{Finding}
 use Rattle.audit_terms.specs.code.runs.Orderly.{IsOrderly}
 use Rattle.h2_frames.specs.declared.cuts.Cut.{Cut}
 use Rattle.h2_frames.specs.declared.cuts.Cut.TheVariants.{Http2, NotHttp2, NoPreface, NoHandshake}
-use Rattle.quiet_pass.specs.code.FoundConnections.{IsNamedAlike}
 use Rattle.report_pages.specs.code.Reach.{extents_in}
 use Rattle.report_pages.specs.declared.told.Outcome.{Outcome}
 use Rattle.report_pages.specs.declared.told.Outcome.TheVariants as outcome
@@ -19,7 +19,7 @@ use Rattle.split_merge.specs.code.Findings.{findings_in}
 -- what the lines of a connection say that its flows hold
 abbrev pub contents_in : Outcome → Contents
 contents_in (outcome.Quiet quiet) = contents.Http2 quiet.frames quiet.tails
-contents_in (outcome.Found found) = contents.Http2 found.value.count found.value.audited.tails
+contents_in (outcome.Found found) = contents.Http2 found.value.count found.value.tails
 contents_in (outcome.Audited audited) = contents.Http2 (length audited.value.frames.items) audited.value.tails
 contents_in outcome.NotHttp2 = contents.NotHttp2
 contents_in outcome.NoPreface = contents.NoPreface
@@ -30,10 +30,9 @@ abbrev pub IsOutcomeOf : Outcome → Cut → List Finding → Type 0
 IsOutcomeOf (outcome.Quiet quiet) (Http2 frames tails) findings =
     (quiet.frames ≡ length frames.items) × (quiet.tails ≡ tails) × (findings ≡ [])
 IsOutcomeOf (outcome.Found found) (Http2 frames tails) findings =
-    (found.value.count ≡ length frames.items) × (found.value.audited.tails ≡ tails)
-    × (findings_in found.value.audited.findings ≡ findings)
-    × (found.value.audited.stalls.items ≡ stalls frames.items findings)
-    × AllByRecursion (IsNamedAlike frames.items found.value.audited.frames.items) findings
+    (found.value.count ≡ length frames.items) × (found.value.tails ≡ tails)
+    × (found.value.findings.items ≡ map (timed frames.items) findings)
+    × (found.value.stalls.items ≡ stalls frames.items findings)
 IsOutcomeOf (outcome.Audited audited) (Http2 frames tails) findings =
     (audited.value.frames.items ≡ frames.items) × (audited.value.tails ≡ tails)
     × (findings_in audited.value.findings ≡ findings) × (audited.value.stalls.items ≡ stalls frames.items findings)
@@ -51,8 +50,7 @@ pub record IsToldOf (told : Told) (audited : Audited) : Type 0 where
 abbrev pub AreToldOf : List Told → List Audited → Type 0
 AreToldOf = AllZip IsToldOf
 
--- the frames, where they are kept, are in range and numbered upwards
+-- the frames, where all are kept, are in range and numbered upwards
 abbrev pub HasOrderlyOutcome : Outcome → Type 0
-HasOrderlyOutcome (outcome.Found found) = IsOrderly found.value.audited.frames.items
 HasOrderlyOutcome (outcome.Audited audited) = IsOrderly audited.value.frames.items
 HasOrderlyOutcome _ = Unit {0}

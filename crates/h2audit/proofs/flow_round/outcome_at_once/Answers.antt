@@ -2,7 +2,7 @@ use Rattle.std.proofs.Common.{IfSome, List, subst, sym}
 use Rattle.audit_terms.specs.declared.frames.Frame.{Frame}
 use Rattle.h2_frames.specs.Cut.{IsCut, IsHttp2}
 use Rattle.h2_frames.specs.declared.cuts.Cut.TheVariants.{Http2}
-use Rattle.h2audit.proofs.Flows.{held-found}
+use Rattle.h2audit.proofs.Flows.{found-in-time, held-found}
 use Rattle.quiet_pass.specs.code.FoundConnections.{IsFoundOf}
 use Rattle.h2audit.proofs.flow_round.outcome_at_once.Goals as goal
 
@@ -15,7 +15,7 @@ outcome_found-requires c =
     let is : IfSome c.in_ok-found.field-0 (IsFoundOf c.args.frames_shown client server) =
     c.in_ok-found.ensures.found client server http2.0
     (subst (λ (l : List Frame). IsHttp2 client server l c.in-Http2.tails) (sym c.as_slice.ensures.value) http2.1) in
-    (rw c.in-Some.is at is).some_orderly
+    found-in-time c.args.frames_shown client server c.in-Some.found (rw c.in-Some.is at is)
 
 pub returns : goal.returns
 returns c = λ client server cut.

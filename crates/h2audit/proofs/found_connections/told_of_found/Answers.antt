@@ -1,7 +1,13 @@
+use Rattle.h2audit.proofs.Flows.{found-in-time}
 use Rattle.h2audit.proofs.MetAudits.{KeepsMet, keeps-http2, told-whole}
 use Rattle.h2audit.proofs.found_connections.told_of_found.Goals as goal
 use Rattle.h2audit.proofs.found_connections.told_of_found.Goals.{in-Http2+in_ok-outcome-in-Http2, in-NoHandshake}
 use Rattle.h2audit.proofs.found_connections.told_of_found.Goals.{in-NoPreface, in-NotHttp2}
+
+pub outcome_found-requires : goal.outcome_found-requires
+outcome_found-requires c =
+    let (credits, client, server, are) = c.requires in
+    rw c.in-Http2.is (found-in-time credits client server c.in-Http2.found (rw c.in-Http2.is at are.cut))
 
 pub returns : goal.returns
 returns c = λ credits client server are client_gap server_gap.

@@ -1,4 +1,5 @@
-use Rattle.quiet_pass.proofs.FoundLemmas.{all-found, all-named}
+use Rattle.std.proofs.Common.{◌∙◌}
+use Rattle.quiet_pass.proofs.FoundLemmas.{all-timed}
 use Rattle.quiet_pass.proofs.found_connections.found_after.Goals as goal
 
 pub returns : goal.returns
@@ -9,7 +10,5 @@ returns c = λ client server frames started all h.
       http2 = all.http2;
       orderly = all.orderly;
       count = all.counted;
-      findings = rw c.cut_at_stop.ensures (all-found law.met law.once h);
-      some_orderly = (h.kept all.orderly).orderly;
-      named = rw c.cut_at_stop.ensures (all-named law.met law.once h all.orderly);
+      findings = c.cut_timed_at_stop.ensures ∙ all-timed law.met law.once h all.orderly;
     }

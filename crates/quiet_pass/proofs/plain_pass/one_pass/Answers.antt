@@ -1,4 +1,5 @@
-use Rattle.std.proofs.Common.{◌∙◌, []}
+use Rattle.std.proofs.Common.{◌∙◌, [], ap}
+use Rattle.audit_terms.specs.Finding.{upto_stop}
 use Rattle.quiet_pass.proofs.FoundLemmas.{all-findings, all-found}
 use Rattle.quiet_pass.proofs.plain_pass.one_pass.Goals as goal
 
@@ -11,5 +12,6 @@ returns c =
     let met = c.in_ok-meet_all.ensures in
     let after = met.after [] c.begin-machine.ensures.after c.requires in
     c.cut_at_stop.ensures
+    ∙ ap upto_stop (rw c.as_slice.ensures.value at c.in_ok-found.ensures)
     ∙ rw (met.same ∙ c.begin-machine.ensures.shown) at (all-found law.met law.once after)
     ∙ all-findings _

@@ -1,27 +1,30 @@
-use Rattle.std.proofs.lemmas.Bool.{eqb-false}
-use Rattle.stream_credit.proofs.Words.{arith, eqb-true, nil_from_length, refl, sym, ◌∙◌}
-use Rattle.quiet_pass.proofs.FoundLemmas.{none-added, named-some}
+use Rattle.std.proofs.Common.{◌++◌, ◌∙◌, ap, append-nil, arith, refl, sym}
+use Rattle.audit_terms.specs.code.TimedFindings.{timed_by}
+use Rattle.quiet_pass.proofs.FoundLemmas.{added-more, mapped-all}
+use Rattle.quiet_pass.specs.declared.found_passes.FoundPass.{FoundPass}
 use Rattle.quiet_pass.proofs.found_passes.FoundPass.add.Goals as goal
 
-pub returns-then-is_empty : goal.returns-then-is_empty
-returns-then-is_empty c =
-    let said = c.args.said in
-    let none = nil_from_length said.items (omega (arith, said.ok.0, eqb-true _ _ (sym c.if-is_empty.ensures))) in
-    record {
-      added = none-added c.args.frame.now c.args.self.now _ none refl refl
-          (rw c.as_slice.ensures.value at c.has_stop-self.ensures) refl;
-      pass = refl;
-    }
+pub loop-one-init : goal.loop-one-init
+loop-one-init c = record { found = sym (append-nil c.args.self.now.found.items); rest = refl }
+
+pub loop-one-preserved : goal.loop-one-preserved
+loop-one-preserved c = record {
+  found = added-more (timed_by c.args.frame.now) c.args.said.now c.loop-one.one-index c.one-item.result _ _ _ _
+      c.loop-one-test.true c.one-item.is c.loop-one.invariant.found c.of.ensures c.in_ok-push.ensures.items;
+  rest = ap (λ (one : FoundPass). record one { found = c.push.new.self }) c.loop-one.invariant.rest;
+}
 
 pub returns : goal.returns
-returns c = record {
-  added = record {
-    found = c.in_ok-append.ensures.items;
-    shown_at = (rw c.from_ref.ensures.value at c.in_ok-extend_from_slice.ensures.items)
-        ∙ named-some c.args.frame.now c.args.said.items c.args.self.now.shown_at.items
-        (λ e. absurd (omega (arith, e, c.args.said.ok.0, eqb-false _ _ (sym c.if-is_empty.ensures))));
-    stopped = rw c.as_slice.ensures.value at c.has_stop-self.ensures;
-    same = refl;
-  };
-  pass = refl;
-}
+returns c =
+    let at = c.loop-one in
+    let rest = at.invariant.rest in record {
+      added = record {
+        found = at.invariant.found
+            ∙ ap (λ l. c.args.self.now.found.items ++ l)
+            (mapped-all (timed_by c.args.frame.now) c.args.said.now at.one-index
+            (omega (arith, c.loop-one-test.false)));
+        stopped = ap (λ (one : FoundPass). one.has_stopped) rest ∙ c.has_stop-self.ensures;
+        same = ap (λ (one : FoundPass). one.frames_shown) rest;
+      };
+      pass = ap (λ (one : FoundPass). one.pass) rest;
+    }

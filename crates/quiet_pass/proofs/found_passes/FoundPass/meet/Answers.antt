@@ -30,8 +30,8 @@ returns-then-is_quiet-clause-after c = λ frames h orderly.
     let met = c.in_ok-is_quiet.ensures in
     quiet-more c.args.frame.now h c.if-self.false c.moves_little.ensures orderly
     (OnTrue_at c.if-is_quiet.true met.quiet _ (h.goes_on c.if-self.false).1)
-    (ap (λ (one : FoundPass). one.found) met.rest) (ap (λ (one : FoundPass). one.shown_at) met.rest)
-    (ap (λ (one : FoundPass). one.has_stopped) met.rest) (OnTrue_at c.if-is_quiet.true met.hidden)
+    (ap (λ (one : FoundPass). one.found) met.rest) (ap (λ (one : FoundPass). one.has_stopped) met.rest)
+    (OnTrue_at c.if-is_quiet.true met.hidden)
     (ap (λ (one : FoundPass). one.frames_shown) met.rest)
 
 pub returns-clause-after : goal.returns-clause-after
@@ -39,4 +39,4 @@ returns-clause-after c =
     let met = c.in_ok-is_quiet.ensures in
     said-after c.args.frame.now c.args.self.now _ _ c.if-self.false c.moves_little.ensures
     (OnFalse_at c.if-is_quiet.false met.left) c.in_ok-say.ensures (ap (λ (one : FoundPass). one.found) met.rest)
-    (ap (λ (one : FoundPass). one.shown_at) met.rest) (ap (λ (one : FoundPass). one.frames_shown) met.rest)
+    (ap (λ (one : FoundPass). one.frames_shown) met.rest)

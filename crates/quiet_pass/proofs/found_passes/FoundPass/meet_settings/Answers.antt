@@ -20,7 +20,7 @@ returns-then-meet_still-clause-after c = λ frames h orderly.
     (met.quiet c.args.self.now.pass
     (record { brought = c.in_ok-change.ensures; last = refl; initial = refl; connection = refl; streams = refl }) _
     (h.goes_on c.requires.on).1) (ap (λ (one : FoundPass). one.found) met.rest)
-    (ap (λ (one : FoundPass). one.shown_at) met.rest) (ap (λ (one : FoundPass). one.has_stopped) met.rest) met.hidden
+    (ap (λ (one : FoundPass). one.has_stopped) met.rest) met.hidden
     (ap (λ (one : FoundPass). one.frames_shown) met.rest)
 
 pub returns-clause-after : goal.returns-clause-after
@@ -38,8 +38,7 @@ returns-clause-after c = λ frames h orderly.
       streams = refl;
     })) _ (h.goes_on c.requires.on).1))
     (record {
-      found = rw (← ap (λ (one : FoundPass). one.found) rest) adds.added.found;
-      shown_at = rw (← ap (λ (one : FoundPass). one.shown_at) rest) adds.added.shown_at;
-      stopped = adds.added.stopped;
+      found = rw (← ap (λ (one : FoundPass). one.found) rest) (rw c.as_slice.ensures.value at adds.added.found);
+      stopped = rw c.as_slice.ensures.value at adds.added.stopped;
       same = adds.added.same ∙ ap (λ (one : FoundPass). one.frames_shown) rest;
     })

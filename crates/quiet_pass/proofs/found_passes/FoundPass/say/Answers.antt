@@ -6,9 +6,8 @@ returns c =
       said = c.in_ok-said.said.items;
       step = λ state stands. rw adds.pass (c.in_ok-said.ensures state stands);
       added = record {
-        found = adds.added.found;
-        shown_at = adds.added.shown_at;
-        stopped = adds.added.stopped;
+        found = rw c.as_slice.ensures.value at adds.added.found;
+        stopped = rw c.as_slice.ensures.value at adds.added.stopped;
         same = adds.added.same;
       };
     }
