@@ -7,7 +7,7 @@ ghost use Rattle.tcp_streams.specs.code.SentFlows.{HaveFlows};
 ghost use Rattle.tcp_streams.specs.code.Side.{Sent};
 
 use crate::found_visitor::{FoundCut, FoundVisitor};
-use crate::showing::Showing;
+use crate::showing::{Showing, WithoutCredits};
 use h2_frames::ConnectionFrames;
 use packet_heads::Segment;
 use std::alloc::{AllocError, Global};
@@ -22,6 +22,9 @@ use tcp_streams::{ConnectionVisitor, FlowEnd};
 pub struct ConnectionFindings<S> {
     frames: ConnectionFrames<FoundVisitor<S>>,
 }
+
+// A capture may open a connection with every second packet.
+const _: () = prove!(size_of::<ConnectionFindings<WithoutCredits>>() <= 520);
 
 /// What all segments of a connection tell.
 #[derive(Drop)]

@@ -5,11 +5,11 @@ use Rattle.tcp_streams.proofs.Words.{Segment, length-map, get_or-map, append-nil
 use Rattle.tcp_streams.proofs.Words.{sum_by-cons, take-append-drop}
 use Rattle.std.proofs.Common.{subst}
 use Rattle.std.proofs.lemmas.List.{Elements.All-get_or, drop_at, drop_more, take_at, take_more}
-use Rattle.tcp_streams.specs.code.Flows.{AreWaiting, MayFollow, RiseAbove, last_of, payloads}
+use Rattle.tcp_streams.specs.code.Flows.{HasSegments, MayFollow, RiseAbove, last_of, payloads}
 use Rattle.tcp_streams.specs.code.Side.{IsSent, Sent, segments_among}
 use Rattle.tcp_streams.specs.code.{Taken.IsNextSent}
 use Rattle.tcp_streams.proofs.Rooms.{sent-sum}
-use Rattle.tcp_streams.specs.declared.waiting.Waiting.{Waiting}
+use Rattle.tcp_streams.specs.declared.waiting.WaitingSegments.{WaitingSegments}
 
 pub payloads-append : (xs ys : List Sent) → payloads (xs ++ ys) ≡ payloads xs ++ payloads ys
 payloads-append [] ys = refl
@@ -39,8 +39,8 @@ rises-to low (one ∷ sent) (suc k) d lt h =
     let next : suc k + 1 ≡ suc (k + 1) = omega arith in
     (before, ap (λ n. last_of low (take n (one ∷ sent))) next ∙ last)
 
-pub is-at : (taken : List Sent) (low : ℕ) (sent : List Sent) (waiting : Waiting) (k : ℕ) (s : Segment) (rest : List ℕ)
-    → AreWaiting sent waiting → MayFollow taken low sent → k < length waiting.segments.items
+pub is-at : (taken : List Sent) (low : ℕ) (sent : List Sent) (waiting : WaitingSegments) (k : ℕ) (s : Segment)
+    (rest : List ℕ) → HasSegments sent waiting → MayFollow taken low sent → k < length waiting.segments.items
     → s ≡ get_or waiting.segments.items k s → rest ≡ payloads (drop k sent) → IsAt taken low sent k s rest
 is-at taken low sent waiting k s rest w follow lt is rest-is =
     let d : Sent = (s, []) in

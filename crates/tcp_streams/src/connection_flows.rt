@@ -1,7 +1,7 @@
 //! The flows of a connection, handed on while its segments come.
 
 ghost use Rattle.std.specs.Prelude.{◌≡◌, ◌++◌, ◌∷◌, [], ℕ, List, None, Some, IfOk, OnOk, true};
-ghost use Rattle.tcp_streams.specs.code.Flows.{AreWaiting, HasHandedOn, HasTakenAll, MayFollow};
+ghost use Rattle.tcp_streams.specs.code.Flows.{AreWaiting, HasHandedOn, HasSegments, HasTakenAll, MayFollow};
 ghost use Rattle.tcp_streams.specs.code.Flows.{IsEndOf, IsServerEnd, has_to_wait, is_answered, last_of};
 ghost use Rattle.packet_heads.specs.declared.packets.Segment.{Segment as Opening};
 ghost use Rattle.tcp_streams.specs.code.Past.{answers};
@@ -13,7 +13,7 @@ use crate::both_sides::BothSides;
 use crate::growth_visitor::GrowthVisitor;
 use crate::members::is_answer;
 use crate::side_stage::SideStage;
-use crate::waiting::Waiting;
+use crate::waiting::{Waiting, WaitingSegments};
 use audit_terms::Side;
 use packet_heads::Segment;
 use std::alloc::{AllocError, Global};
@@ -62,7 +62,7 @@ impl<V: GrowthVisitor + Drop> ConnectionFlows<V> {
                 server_side: None,
                 visitor,
             },
-            waiting: Waiting::new(alloc),
+            waiting: Waiting::none(),
         }
     }
 
@@ -84,7 +84,7 @@ impl<V: GrowthVisitor + Drop> ConnectionFlows<V> {
             (sent ++ (segment.now, payload.now) ∷ []) segment.now.rec self.new) }
     {
         if self.has_to_wait(segment, payload) {
-            return self.waiting.push(segment, payload);
+            return self.waiting.push(alloc, segment, payload);
         }
         if self.is_answered_by(segment) {
             return self.take_answer(alloc, segment, payload);
@@ -166,7 +166,7 @@ impl<V: GrowthVisitor + Drop> ConnectionFlows<V> {
     {
         self.both.server_side = Some(SideStage::new(alloc, Side::Server, number));
         replay(alloc, &self.waiting, &mut self.both)?;
-        self.waiting = Waiting::new(alloc);
+        self.waiting = Waiting::none();
         Ok(())
     }
 }
@@ -197,7 +197,7 @@ fn server_end(server: &Option<SideStage>) -> (Option<u32>, FlowEnd)
     }
 }
 
-/// Takes segments that waited.
+/// Takes the segments that waited, if any did.
 fn replay<V: GrowthVisitor>(
     alloc: Global,
     waiting: &Waiting,
@@ -207,6 +207,25 @@ fn replay<V: GrowthVisitor>(
         × AreWaiting sent waiting.now × MayFollow taken low sent }
     ensures taken { OnOk result ((taken : List Sent) → (low : ℕ) → (sent : List Sent)
         → AreTaken V.after taken low both.old → AreWaiting sent waiting.now → MayFollow taken low sent
+        → AreTaken V.after (taken ++ sent) (last_of low sent) both.new) }
+    ensures same { OnOk result (AreSameSides both.old both.new) }
+{
+    match &waiting.kept {
+        Some(kept) => replay_each(alloc, kept, both),
+        None => Ok(()),
+    }
+}
+
+/// Takes segments that waited.
+fn replay_each<V: GrowthVisitor>(
+    alloc: Global,
+    waiting: &WaitingSegments,
+    both: &mut BothSides<V>,
+) -> Result<(), AllocError>
+    requires { (taken : List Sent) × (low : ℕ) × (sent : List Sent) × AreTaken V.after taken low both.old
+        × HasSegments sent waiting.now × MayFollow taken low sent }
+    ensures taken { OnOk result ((taken : List Sent) → (low : ℕ) → (sent : List Sent)
+        → AreTaken V.after taken low both.old → HasSegments sent waiting.now → MayFollow taken low sent
         → AreTaken V.after (taken ++ sent) (last_of low sent) both.new) }
     ensures same { OnOk result (AreSameSides both.old both.new) }
 {

@@ -1,14 +1,14 @@
 -- The flows of a connection while its segments come, some of which may wait for the server's number. No public clause
 -- cites these, but what is promised at the end (`HasHandedOn`).
 use Rattle.std.specs.Prelude.{◌≡◌, ℕ, ◌<◌, ◌^◌, All, List, [], ◌∷◌, ◌++◌, find, length, Option, None, Some, option_map}
-use Rattle.std.specs.Prelude.{Bool, true, false, ◌&&◌, ◌||◌, Vec, nat_lt, not}
+use Rattle.std.specs.Prelude.{Bool, Box, true, false, ◌&&◌, ◌||◌, Vec, nat_lt, not}
 use Rattle.std.specs.declared.alloc.Global.{Global}
 use Rattle.audit_terms.specs.declared.sides.Side.{Side}
 use Rattle.audit_terms.specs.declared.sides.Side.TheVariants.{Client, Server}
 use Rattle.packet_heads.specs.declared.packets.Endpoint.{Endpoint}
 use Rattle.packet_heads.specs.declared.packets.Segment.{Segment}
 use Rattle.tcp_streams.specs.declared.{both_sides.BothSides.BothSides, side_stage.SideStage.SideStage}
-use Rattle.tcp_streams.specs.declared.waiting.Waiting.{Waiting}
+use Rattle.tcp_streams.specs.declared.{waiting.Waiting.Waiting, waiting.WaitingSegments.WaitingSegments}
 use Rattle.tcp_streams.specs.declared.connection_flows.ConnectionFlows.{ConnectionFlows}
 use Rattle.tcp_streams.specs.declared.connection_flows.{FlowEnd.FlowEnd, HandedFlows.HandedFlows}
 use Rattle.tcp_streams.specs.declared.side_flow.SideFlow.{SideFlow}
@@ -27,10 +27,18 @@ abbrev pub payloads : List Sent → List ℕ
 payloads [] = []
 payloads (one ∷ later) = one.1 ++ payloads later
 
--- these segments wait
-pub record AreWaiting (sent : List Sent) (waiting : Waiting) : Type 0 where
+-- it has these segments, with their payloads
+pub record HasSegments (sent : List Sent) (waiting : WaitingSegments) : Type 0 where
   pub segments_are : waiting.segments.items ≡ segments_among sent
   pub bytes_are : waiting.bytes.items ≡ payloads sent
+
+abbrev pub AreWaitingIn : List Sent → Option (Box WaitingSegments Global) → Type 0
+AreWaitingIn sent None = sent ≡ []
+AreWaitingIn sent (Some kept) = HasSegments sent kept.value
+
+-- these segments wait
+abbrev pub AreWaiting : List Sent → Waiting → Type 0
+AreWaiting sent waiting = AreWaitingIn sent waiting.kept
 
 -- their records rise from above one, to the last
 abbrev pub RiseAbove : ℕ → List Sent → Type 0

@@ -18,7 +18,7 @@ returns g c = record {
     sent_upto = All-nil (λ (one : Sent). one.0.rec ≤ 0);
     grown_upto = All-nil (λ (g : Growth). g.rec ≤ 0);
   };
-  are_waiting = c.new-2.ensures;
+  are_waiting = c.none.ensures;
   follow = record { each = All-nil (λ (one : Sent). IsSent one.0 one.1); rise = tt; short = omega arith };
   last_is = refl;
   waits = All-nil (λ (one : Sent). payload_length one.0 ≡ 0);

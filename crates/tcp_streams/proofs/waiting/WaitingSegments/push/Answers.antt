@@ -1,6 +1,6 @@
 use Rattle.tcp_streams.proofs.Words.{◌∙◌, ◌++◌, ◌∷◌, [], ap, sym}
 use Rattle.tcp_streams.proofs.{Replay.payloads-push, StagingSteps.segments-push}
-use Rattle.tcp_streams.proofs.waiting.Waiting.push.Goals as goal
+use Rattle.tcp_streams.proofs.waiting.WaitingSegments.push.Goals as goal
 
 pub returns : goal.returns
 returns c = λ sent h.

@@ -3,7 +3,7 @@ use Rattle.tcp_streams.proofs.Words.{◌≡◌, ◌∙◌, ◌++◌, ◌∷◌, 
 use Rattle.tcp_streams.proofs.Words.{take_all, length, ◌≤◌, ◌+◌, arith, length-map}
 use Rattle.tcp_streams.specs.code.{Flows.last_of, Side.IsSent, Side.Sent, Taken.AreTaken}
 use Rattle.tcp_streams.proofs.{Replay.is-at, Both.same-more}
-use Rattle.tcp_streams.proofs.connection_flows.replay.Goals as goal
+use Rattle.tcp_streams.proofs.connection_flows.replay_each.Goals as goal
 
 pub loop-segment-init : goal.loop-segment-init
 loop-segment-init g c = record {
