@@ -76,10 +76,10 @@ class Version(unittest.TestCase):
             self.assertTrue(version.date_of(VERSION) and heading.startswith(f"{VERSION} ("), heading)
 
     def test_released(self) -> None:
-        """Behind the commit of a release VERSION says another one: which no two builds share."""
+        """What differs from a release has another VERSION: which no two builds share."""
         words = ["git", "-C", str(TOP), "rev-parse", "--quiet", "--verify"]
         tagged, here = (
-            subprocess.run([*words, f"{name}^{{commit}}"], capture_output=True, text=True)
+            subprocess.run([*words, f"{name}^{{tree}}"], capture_output=True, text=True)
             for name in (f"refs/tags/v{VERSION}", "HEAD")
         )
         if tagged.returncode == 0:
