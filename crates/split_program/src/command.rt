@@ -24,7 +24,7 @@ use std::alloc::{AllocError, Global};
 const MOST_PARTS: i64 = 500;
 
 /// The version of the program.
-const VERSION: &str = "1.1.0-dev";
+const VERSION: &str = "1.1.0";
 
 const ABOUT: &str =
     "Splits a capture of any size into captures that h2audit reads, by pairs of endpoints";

@@ -54,7 +54,7 @@ fn arguments<'a>(alloc: Global) -> Result<Vec<Arg<'a>>, AllocError>
 }
 
 /// The version of the program and of its report.
-const VERSION: &str = "1.1.0-dev";
+const VERSION: &str = "1.1.0";
 
 const STATUS_AND_BLAME: &str = concat!(
     "Exit status: 0 without a fault, also where nothing was audited; 1 with a fault; 2 for wrong words; ",
